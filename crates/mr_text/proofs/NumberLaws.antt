@@ -1,5 +1,5 @@
 -- Number texts and the decimals that `itoa` prints are the same texts.
-use Rattle.std.proofs.Common.{rules, arith, ◌≡◌, ℕ, ◌+◌, ◌-◌, ◌*◌, ◌^◌, ◌<◌, ◌≤◌, ◌==◌, true, false, Bool, ◌||◌, not, nat_lt, nat_le, List, length, get_or, take, Some, None, codes, refl, sym, lit≤, lit<, ◌≢◌, inl, inr, cond, ap, subst}
+use Rattle.std.proofs.Common.{rules, arith, ◌≡◌, ℕ, ◌+◌, ◌-◌, ◌*◌, ◌^◌, ◌<◌, ◌≤◌, ◌==◌, true, false, Bool, ◌||◌, not, nat_lt, nat_le, List, Option, length, get_or, take, Some, None, codes, refl, sym, lit≤, lit<, ◌≢◌, inl, inr, cond, ap, subst, ◌∙◌}
 use Rattle.std.specs.Char.{is_ascii_digit}
 use Rattle.std.specs.Fmt.{decimal}
 use Rattle.std.specs.Int.{IsInRange}
@@ -12,7 +12,7 @@ use Rattle.std.proofs.lemmas.Fmt.{digits_value-decimal, decimal-digits_value, de
 use Rattle.std.proofs.lemmas.Int.Digits.{digits_value_more}
 use Rattle.std.proofs.lemmas.Str.{digit_value_digit}
 use Rattle.std.proofs.lemmas.Str.Parse.{IsNumeralModel, IsDigitsTest, numerals_by_value, digit_at, digits_value_short, digits_value-take-le}
-use Rattle.mr_text.specs.Numbers.{is_number, is_long_number, number_of}
+use Rattle.mr_text.specs.Numbers.{is_number, is_long_number, number_of, greatest_number}
 
 -- `list_all is_ascii_digit` is true of just the texts of digits
 pub tells_digits_list : IsDigitsTest (λ ds. list_all is_ascii_digit ds ≡ true)
@@ -114,3 +114,20 @@ is_number-decimal n lt = elim (cases_eq n 0) [
 pub number_of-decimal : (n : ℕ) → n < 1000000000 → number_of (decimal n) ≡ Some n
 unfolding number_of
 number_of-decimal n lt = rw (is_number-decimal n lt) (ap Some (digits_value-decimal digits_model n (omega arith)))
+
+-- what `number_of` answers of a text that is a number, and of one that is not
+pub number_of-some : (text : List ℕ) → is_number text ≡ true → number_of text ≡ Some (digits_value 10 text)
+unfolding number_of
+number_of-some text h = rw h refl
+
+pub number_of-none : (text : List ℕ) → is_number text ≡ false → number_of text ≡ None
+unfolding number_of
+number_of-none text h = rw h refl
+
+-- an answer of `number_of` is n where the text is what is printed of n
+pub spelled : (text : List ℕ) (answer : Option ℕ) → number_of text ≡ answer → (n : ℕ) → n ≤ greatest_number → text ≡ decimal n → answer ≡ Some n
+spelled text answer is n le e = sym is ∙ ap number_of e ∙ number_of-decimal n (omega arith)
+
+-- the text is what is printed of the number that it names
+pub read : (text : List ℕ) (n : ℕ) → number_of text ≡ Some n → (n ≤ greatest_number) × (text ≡ decimal n)
+read text n is = let p = decimal-number_of text n is in (omega (arith, p.1), sym p.0)

@@ -5,6 +5,10 @@ use Rattle.std.specs.List.{list_all}
 use Rattle.std.specs.Str.{bytes_eq}
 use Rattle.std.specs.Str.Parse.{digits_value}
 
+-- the greatest number that a text may name
+abbrev pub greatest_number : ℕ
+greatest_number = 999999999
+
 -- one to nine digits, of which the first is not 0 (its code is 48)
 abbrev pub is_long_number : List ℕ → Bool
 is_long_number text = nat_lt 0 (length text) && (nat_le (length text) 9 && (not (slice_index text 0 == 48) && list_all is_ascii_digit text))

@@ -2,17 +2,19 @@
 //! or a digit 1 to 9 followed by at most eight digits. They are printed by `itoa`, in std's word `decimal`.
 #![tactic(auto)]
 
-ghost use Rattle.std.specs.Prelude.{◌≡◌, ◌≤◌, length, true};
+ghost use Rattle.std.specs.Prelude.{◌≡◌, ℕ, ◌≤◌, length, true, decimal, Some, IfSome};
 ghost use Rattle.std.specs.Char.{is_ascii_digit};
 ghost use Rattle.std.specs.List.{list_all};
 ghost use Rattle.std.specs.Str.Parse.{digits_value};
-ghost use Rattle.mr_text.specs.Numbers.{is_number, number_of};
+ghost use Rattle.mr_text.specs.Numbers.{is_number, number_of, greatest_number};
 
 /// The number that `text` is, from 0 to 999,999,999: None exactly where it is not `0` and not a digit 1 to 9
 /// followed by at most eight digits. No sign, no leading zero and no space is taken.
 #[tactic(auto, unfolding(crate::specs::Numbers::number_of))]
 pub fn read_number(text: &[u8]) -> Option<u32>
-    ensures { result ≡ number_of text.now }
+    ensures value { result ≡ number_of text.now }
+    ensures spelled { (n : ℕ) → n ≤ greatest_number → text.now ≡ decimal n → result ≡ Some n }
+    ensures read { IfSome result (λ n. (n ≤ greatest_number) × (text.now ≡ decimal n)) }
 {
     if is_number_text(text) {
         Some(digits_number(text))
