@@ -1,0 +1,23 @@
+pub mod BoundedLaws
+pub mod CheapestLaws
+pub mod SearchLaws
+pub mod BestLaws
+pub mod CostLaws
+pub mod SearchOf
+pub mod WorkLaws
+pub mod EquationLaws
+pub mod WorkBounds
+pub mod BestLean
+pub mod SearchSingle
+mod SearchRows
+pub mod Rows
+pub mod SetLaws
+pub mod SumLaws
+pub mod Loops
+pub mod Finding
+pub mod Kept
+pub mod Prices
+pub mod Plain
+pub mod Lists
+pub mod Nulls
+pub mod Apart
