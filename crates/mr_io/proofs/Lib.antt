@@ -1,0 +1,5 @@
+-- The laws of the outside.
+pub mod Taking
+pub mod Fronts
+pub mod Texts
+mod Lookups

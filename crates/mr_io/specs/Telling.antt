@@ -1,0 +1,22 @@
+-- What files tell: their contents by name, the eyes asked for, and the eyes lent.
+use Rattle.std.specs.Prelude.{ℕ, ◌+◌, ◌-◌, List, [], ◌∷◌, ◌++◌}
+use Rattle.mr_io.specs.declared.asked.Asked.{Asked}
+use Rattle.mr_io.specs.declared.duty.Duty.{Duty}
+
+-- A name is the list of its characters. `contents` gives no bytes for a name that is not there.
+pub record Told : Type 0 where
+  pub contents : List ℕ → List ℕ
+  pub asked : List Asked
+  pub lent : ℕ
+
+-- The same files after they were asked for these eyes.
+abbrev pub told_asking : List Asked → Told → Told
+told_asking eyes told = record told { asked = told.asked ++ eyes }
+
+-- After an eye was asked for and lent.
+abbrev pub told_giving : List ℕ → Duty → Told → Told
+told_giving name duty told = record told { asked = told.asked ++ record { name = name; duty = duty } ∷ []; lent = told.lent + 1 }
+
+-- After an eye was taken back.
+abbrev pub told_retiring : Told → Told
+told_retiring told = record told { lent = told.lent - 1 }
