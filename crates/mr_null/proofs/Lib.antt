@@ -1,0 +1,2 @@
+pub mod EliminationLaws
+pub mod Progress
