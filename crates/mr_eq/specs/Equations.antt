@@ -1,0 +1,22 @@
+-- The equations of the targets of a loss, as lists, and the order in which one equation is better than another.
+use Rattle.std.specs.Prelude.{◌≡◌, ℕ, Bool, List, map, bit_xor, nat_lt, ◌==◌, ◌&&◌, ◌||◌}
+use Rattle.mr_model.specs.Sets.{count_subsets}
+use Rattle.mr_model.specs.Code.{is_null, kept_equation, nulls}
+use Rattle.mr_eq.specs.Problems.{Loss, IsLoss, target_at}
+
+-- how many sets of survivors have the sum zero, which is how many equations each target has
+abbrev pub width_of : Loss → ℕ
+width_of p = count_subsets p.avail (is_null p.code)
+
+-- the equations of the target of a level: the one within the kept survivors, XORed with each set of sum zero
+unfoldable pub equations_at : Loss → ℕ → List ℕ
+equations_at p level = map (λ z. bit_xor z (kept_equation p.code p.avail (target_at p level))) (nulls p.code p.avail)
+
+-- x is cheaper than y, or as cheap and the lesser number
+unfoldable pub is_better : (ℕ → ℕ) → ℕ → ℕ → Bool
+is_better cost x y = nat_lt (cost x) (cost y) || ((cost x == cost y) && nat_lt x y)
+
+-- what is kept to list equations: a loss, and the sets of survivors of sum zero
+pub record IsListed (p : Loss) (zs : List ℕ) : Type 0 where
+  pub loss : IsLoss p
+  pub nulls_are : zs ≡ nulls p.code p.avail

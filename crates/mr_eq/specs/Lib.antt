@@ -1,0 +1,4 @@
+pub mod Problems
+pub mod Equations
+pub mod Choices
+pub mod Laws

@@ -1,0 +1,107 @@
+ghost use Rattle.std.specs.Prelude.{◌≡◌, ℕ, ◌^◌, ◌<◌, ◌≤◌, ◌&&◌, length, slice_index, count_ones, nat_lt, IfOk, IfErr, OnOk, if◌then◌else◌};
+ghost use Rattle.mr_model.specs.Sets.{within, often};
+ghost use Rattle.mr_model.specs.Members.{members};
+ghost use Rattle.mr_model.specs.Code.{cost, dropped, is_equation};
+ghost use Rattle.mr_model.specs.Search.{cheapest_within};
+ghost use Rattle.mr_eq.specs.Problems.{Loss, IsLoss, target_at};
+ghost use Rattle.mr_eq.specs.Equations.{width_of, equations_at, is_better};
+
+use crate::problems::Problem;
+use mr_bits::Mask;
+use mr_null::{Nulls, NullsError};
+use std::alloc::Global;
+use std::marker::Model;
+
+/// The equations of the targets of a problem. Those of one target are its equation within the kept survivors,
+/// XORed with each set of survivors whose sum is zero, so each target has as many of them.
+#[derive(Drop)]
+pub struct Equations {
+    problem: Problem,
+    nulls: Nulls,
+}
+
+impl Model for Equations {
+    ghost use Rattle.mr_eq.specs.Problems.{Loss};
+    ghost use Rattle.mr_eq.specs.Equations.{IsListed};
+
+    ghost Value = { Loss };
+
+    ghost view = { λ e. e.problem };
+
+    ghost invariant = { λ e. IsListed e.problem e.nulls };
+}
+
+impl Equations {
+    /// The equations of the targets of `problem`, where each target has at most `most`.
+    ///
+    /// It answers `TooMany` with the `d` of the problem exactly where 2 to the power of `d` is above `most`, and otherwise
+    /// `Memory` where the allocator refused.
+    pub fn of(alloc: Global, problem: &Problem, most: u32) -> Result<Equations, NullsError>
+        ensures problem { IfOk result (λ e. e ≡ problem.now) }
+        ensures few { OnOk result (2 ^ count_ones (dropped problem.now.code problem.now.avail) ≤ most) }
+        ensures too_many { IfErr result (λ e. let d = count_ones (dropped problem.now.code problem.now.avail) in
+            e ≡ (if nat_lt most (2 ^ d) then NullsError.TooMany d else NullsError.Memory)) }
+    {
+        let nulls = problem.nulls(alloc, most)?;
+        Ok(Equations {
+            problem: problem.copy(),
+            nulls,
+        })
+    }
+
+    /// How many equations each target has.
+    pub fn width(&self) -> u32
+        ensures width { result ≡ width_of self.now }
+        ensures power { result ≡ 2 ^ count_ones (dropped self.now.code self.now.avail) }
+        ensures loss { IsLoss self.now }
+    {
+        self.nulls.len()
+    }
+
+    /// An equation of the target of a level. Over all indexes it is each equation of that target once.
+    pub fn get(&self, level: u8, index: u32) -> Mask
+        requires level { level < length (members self.now.targets) }
+        requires index { index < width_of self.now }
+        ensures value { result ≡ slice_index (equations_at self.now level) index }
+        ensures many { length (equations_at self.now level) ≡ width_of self.now }
+        ensures each_once { (x : ℕ) → often (equations_at self.now level) x
+            ≡ (if within x self.now.avail && is_equation self.now.code (target_at self.now level) x then 1 else 0) }
+    {
+        self.nulls.get(index).xor(self.problem.base(level))
+    }
+
+    /// What it costs to read the symbols of `set`.
+    pub fn cost(&self, set: Mask) -> u32
+        requires { set < 2 ^ length self.now.code.rows }
+        ensures { result ≡ cost self.now.code set }
+    {
+        self.problem.cost(set)
+    }
+
+    /// The least equation of the target of a level by cost, and of those of equal cost the least by its number.
+    pub fn least(&self, level: u8) -> Mask
+        requires { level < length (members self.now.targets) }
+        ensures { result ≡ cheapest_within self.now.avail (cost self.now.code)
+            (is_equation self.now.code (target_at self.now level)) }
+    {
+        let width = self.width();
+        let mut least = self.get(level, 0);
+        for index in 1..width {
+            let other = self.get(level, index);
+            if self.is_better(other, least) {
+                least = other;
+            }
+        }
+        least
+    }
+
+    /// Whether `x` is cheaper than `y`, or as cheap and the lesser number.
+    fn is_better(&self, x: Mask, y: Mask) -> bool
+        requires x { x < 2 ^ length self.now.code.rows }
+        requires y { y < 2 ^ length self.now.code.rows }
+        ensures { result ≡ is_better (cost self.now.code) x y }
+    {
+        let (this, other) = (self.cost(x), self.cost(y));
+        this < other || this == other && x < y
+    }
+}

@@ -1,0 +1,11 @@
+//! Problems and their equations: which targets are lost, which symbols survive, and the sets of survivors whose XOR a target is.
+#![tactic(auto)]
+
+mod equations;
+mod found;
+pub mod laws;
+mod problems;
+
+pub use equations::Equations;
+pub use found::Found;
+pub use problems::{Problem, Undetermined};

@@ -1,0 +1,178 @@
+ghost use Rattle.std.specs.Prelude.{◌≡◌, ◌^◌, ◌<◌, ◌≤◌, length, bit_and, bit_or, count_ones, fold, nat_lt, IfOk, IfErr, OnOk, Some, if◌then◌else◌};
+ghost use Rattle.mr_model.specs.Members.{members};
+ghost use Rattle.mr_model.specs.Code.{cost, dropped, kept_equation, nulls, plain, undetermined};
+ghost use Rattle.mr_eq.specs.Problems.{Loss, IsLoss, target_at, problem_of, base_list};
+
+use arrayvec::ArrayVec;
+use mr_bits::{Mask, Matrix};
+use mr_null::{Basis, Nulls, NullsError};
+use std::alloc::Global;
+use std::marker::Model;
+use thiserror::Error;
+
+/// A target that has no equation among the survivors.
+#[derive(Clone, Copy, Debug, PartialEq, Eq, Error)]
+#[error("symbol {symbol} is not determined")]
+pub struct Undetermined {
+    /// The least such target.
+    pub symbol: u8,
+}
+
+/// A loss that is determined: a matrix, the symbols that survive, and the targets, each of which is the XOR of
+/// some of the survivors.
+///
+/// The targets are counted upwards; the place of a target in that order is its level, from 0.
+#[derive(Drop)]
+pub struct Problem {
+    matrix: Matrix,
+    avail: Mask,
+    targets: Mask,
+    kept: Mask,
+    bases: ArrayVec<Mask, 128>,
+}
+
+impl Model for Problem {
+    ghost use Rattle.mr_eq.specs.Problems.{Loss, IsProblem};
+
+    ghost Value = { Loss };
+
+    ghost view = { λ p. record { code = p.matrix; avail = p.avail; targets = p.targets } };
+
+    ghost invariant = { λ p. IsProblem (record { code = p.matrix; avail = p.avail; targets = p.targets }) p.kept p.bases.items };
+}
+
+impl Problem {
+    /// The problem of reading the `targets` from the symbols `avail`. Both are sets of symbols of the matrix, with no
+    /// common member.
+    ///
+    /// It answers `Undetermined` exactly where a target has no equation within `avail`, and names the least such target.
+    pub fn new(matrix: &Matrix, avail: Mask, targets: Mask) -> Result<Problem, Undetermined>
+        requires avail_below { avail < 2 ^ length matrix.now.rows }
+        requires targets_below { targets < 2 ^ length matrix.now.rows }
+        requires apart { bit_and avail targets ≡ 0 }
+        ensures { result ≡ problem_of matrix.now avail targets }
+    {
+        let _within_limits = matrix.shape();
+        let basis = Basis::of(matrix, avail);
+        let bases = bases_of(matrix, &basis, targets)?;
+        Ok(Problem {
+            matrix: *matrix,
+            avail,
+            targets,
+            kept: basis.kept(),
+            bases,
+        })
+    }
+
+    /// The targets.
+    pub fn targets(&self) -> Mask
+        ensures targets { result ≡ self.now.targets }
+        ensures loss { IsLoss self.now }
+    {
+        self.targets
+    }
+
+    /// How many targets there are, which is how many levels.
+    pub fn levels(&self) -> u8
+        ensures { result ≡ length (members self.now.targets) }
+    {
+        self.bases.len() as u8
+    }
+
+    /// How many survivors are not kept: their number less the rank of their rows.
+    pub fn d(&self) -> u32
+        ensures number { result ≡ count_ones (dropped self.now.code self.now.avail) }
+        ensures listed { result ≡ length (members (dropped self.now.code self.now.avail)) }
+    {
+        self.avail.minus(self.kept).count()
+    }
+
+    /// The union of the equations that the targets have within the kept survivors.
+    pub fn plain(&self) -> Mask
+        ensures { result ≡ plain self.now.code self.now.avail self.now.targets }
+    {
+        union_of(&self.bases)
+    }
+
+    /// The equation of the target of a level within the kept survivors.
+    pub fn base(&self, level: u8) -> Mask
+        requires { level < length (members self.now.targets) }
+        ensures { result ≡ kept_equation self.now.code self.now.avail (target_at self.now level) }
+    {
+        self.bases[usize::from(level)]
+    }
+
+    /// What it costs to read the symbols of `set`.
+    pub fn cost(&self, set: Mask) -> u32
+        requires { set < 2 ^ length self.now.code.rows }
+        ensures { result ≡ cost self.now.code set }
+    {
+        let _prices_of_1 = &self.matrix;
+        set.count()
+    }
+
+    /// The sets of survivors whose sum is zero, where they are at most `most`.
+    pub(crate) fn nulls(&self, alloc: Global, most: u32) -> Result<Nulls, NullsError>
+        ensures list { IfOk result (λ n. n ≡ nulls self.now.code self.now.avail) }
+        ensures few { OnOk result (2 ^ count_ones (dropped self.now.code self.now.avail) ≤ most) }
+        ensures too_many { IfErr result (λ e. let d = count_ones (dropped self.now.code self.now.avail) in
+            e ≡ (if nat_lt most (2 ^ d) then NullsError.TooMany d else NullsError.Memory)) }
+    {
+        Basis::of(&self.matrix, self.avail).nulls(alloc, most)
+    }
+
+    /// The same problem again.
+    pub(crate) fn copy(&self) -> Problem
+        ensures { result ≡ self.now }
+    {
+        Problem {
+            matrix: self.matrix,
+            avail: self.avail,
+            targets: self.targets,
+            kept: self.kept,
+            bases: copy_of(&self.bases),
+        }
+    }
+}
+
+/// The same sets again.
+fn copy_of(sets: &[Mask]) -> ArrayVec<Mask, 128>
+    requires { length sets.now ≤ 128 }
+    ensures { result.items ≡ sets.now }
+{
+    let mut copy = ArrayVec::new();
+    for set in sets {
+        copy.push(*set);
+    }
+    copy
+}
+
+/// The union of some sets.
+fn union_of(sets: &[Mask]) -> Mask
+    ensures { result ≡ fold bit_or 0 sets.now }
+{
+    sets.iter()
+        .fold(Mask::EMPTY, |union, set| union.union(*set))
+}
+
+/// The equation of each target within the kept symbols of the basis, by level, or the least target that has none.
+fn bases_of(
+    matrix: &Matrix,
+    basis: &Basis,
+    targets: Mask,
+) -> Result<ArrayVec<Mask, 128>, Undetermined>
+    requires same { basis.now.code ≡ matrix.now }
+    requires targets_below { targets < 2 ^ length matrix.now.rows }
+    ensures bases { IfOk result (λ bases. bases.items ≡ base_list matrix.now basis.now.set targets) }
+    ensures determined { IfOk result (λ _. undetermined matrix.now basis.now.set targets ≡ None) }
+    ensures least { IfErr result (λ e. undetermined matrix.now basis.now.set targets ≡ Some e.symbol) }
+{
+    let mut bases = ArrayVec::new();
+    for symbol in targets.symbols() {
+        let Some(base) = basis.combination(matrix.row(symbol)) else {
+            return Err(Undetermined { symbol });
+        };
+        bases.push(base);
+    }
+    Ok(bases)
+}
