@@ -1,0 +1,11 @@
+pub mod Parts
+pub mod HeadLaws
+pub mod RowLaws
+pub mod LineLaws
+pub mod BodyLaws
+pub mod RowTexts
+pub mod HeadTexts
+pub mod Spelling
+pub mod Readings
+pub mod LayoutLaws
+pub mod Worked
