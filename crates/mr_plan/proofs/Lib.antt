@@ -1,0 +1,11 @@
+pub mod MemberLists
+pub mod PlanLaws
+pub mod TextLaws
+pub mod FourParts
+pub mod CheckLaws
+pub mod Pieces
+pub mod ReadLaws
+pub mod SpellLaws
+pub mod LineLaws
+pub mod PlanReadLaws
+pub mod CutLaws

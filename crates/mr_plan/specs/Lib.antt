@@ -1,0 +1,4 @@
+pub mod Plans
+pub mod PlanText
+pub mod Checks
+pub mod Readings
