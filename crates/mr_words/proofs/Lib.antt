@@ -1,0 +1,16 @@
+pub mod Agreement
+pub mod Building
+pub mod ClapWalk
+pub mod Defaults
+pub mod Examples
+pub mod Looks
+pub mod LostCharacters
+pub mod LostDevices
+pub mod LostLaws
+pub mod Parsing
+pub mod RulesAdded
+pub mod Speaking
+pub mod Standing
+pub mod Steps
+pub mod Upwards
+pub mod Uses
