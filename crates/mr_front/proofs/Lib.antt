@@ -1,0 +1,15 @@
+pub mod Positions
+pub mod LayerLaws
+pub mod LayerSteps
+pub mod Increasing
+pub mod Counts
+pub mod ListLaws
+pub mod AppendLaws
+pub mod FirstLaws
+pub mod AddLaws
+pub mod FrontierLaws
+pub mod ChildLaws
+pub mod SearchSteps
+pub mod UnionLaws
+pub mod LossSteps
+pub mod SearchAnswers

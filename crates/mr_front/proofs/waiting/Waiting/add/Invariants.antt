@@ -1,0 +1,12 @@
+use Rattle.std.proofs.Common.{◌≤◌, ◌-◌, length, take}
+use Rattle.mr_front.specs.Waiting.{HasAdded}
+use Rattle.mr_front.proofs.waiting.Waiting.add.Given as goal
+
+abbrev pub invariant-loop-start : goal.invariant-loop-start
+invariant-loop-start l = record {
+  in_range : l.start ≤ length l.masks;
+  added : HasAdded l.fn.self.lists l.self.lists l.level (take l.start l.masks);
+}
+
+abbrev pub decreases-loop-start : goal.decreases-loop-start
+decreases-loop-start l = length l.masks - l.start

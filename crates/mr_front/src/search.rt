@@ -1,0 +1,108 @@
+ghost use Rattle.std.specs.Prelude.{◌≡◌, ◌+◌, ◌*◌, ◌<◌, length, nat_le, Option, Some, None, IfOk, OnOk, if◌then◌else◌};
+ghost use Rattle.mr_model.specs.Members.{members};
+ghost use Rattle.mr_model.specs.Choice.{choice_of};
+ghost use Rattle.mr_eq.specs.Choices.{found_of};
+ghost use Rattle.mr_front.specs.Frontiers.{WaitsToo};
+ghost use Rattle.mr_front.specs.Children.{children};
+
+use crate::children::expand;
+use crate::costs::cost_of;
+use crate::frontier::Frontier;
+use crate::layers::Layer;
+use mr_bits::{Mask, NoMemory};
+use mr_eq::{Equations, Found, Problem};
+use mr_null::NullsError;
+use std::alloc::Global;
+
+/// The choice for a problem: the first smallest set of survivors from which each target can be read, where the work of
+/// finding it is at most `budget`, and otherwise the plain set.
+///
+/// The answer is `Spent` exactly where the work is above `budget`. Where each target has more equations than that,
+/// none is listed.
+pub fn search_one(alloc: Global, problem: &Problem, budget: u32) -> Result<Found, NoMemory>
+    ensures { IfOk result (λ found. found ≡ found_of (choice_of problem.now.code problem.now.avail problem.now.targets budget)) }
+{
+    let _loss = problem.targets();
+    if problem.levels() == 0 {
+        return Ok(Found::Least {
+            set: Mask::EMPTY,
+            work: 0,
+        });
+    }
+    match Equations::of(alloc, problem, budget) {
+        Ok(equations) => search_layers(alloc, problem, &equations, budget),
+        Err(NullsError::TooMany { .. }) => Ok(Found::Spent {
+            set: problem.plain(),
+        }),
+        Err(NullsError::Memory) => Err(NoMemory),
+    }
+}
+
+/// The choice for a problem whose equations are listed: it takes one layer after another, until one has masks that have
+/// an equation of each target, or the work is above `budget`.
+fn search_layers(
+    alloc: Global,
+    problem: &Problem,
+    equations: &Equations,
+    budget: u32,
+) -> Result<Found, NoMemory>
+    requires { equations.now ≡ problem.now }
+    ensures { IfOk result (λ found. found ≡ found_of (choice_of problem.now.code problem.now.avail problem.now.targets budget)) }
+{
+    let width = equations.width();
+    let levels = problem.levels();
+    let plain = problem.plain();
+    let bound = cost_of(plain);
+    let mut frontier = Frontier::new(alloc)?;
+    let mut work = 0;
+    while let Some(layer) = frontier.take_layer() {
+        if layer.level >= levels {
+            return Ok(Found::Least {
+                set: layer.masks.get(0),
+                work,
+            });
+        }
+        let Some(more) = work_with(work, layer.masks.len(), width, budget) else {
+            return Ok(Found::Spent { set: plain });
+        };
+        work = more;
+        expand_layer(alloc, equations, &layer, bound, &mut frontier)?;
+    }
+    unreachable!()
+}
+
+/// The work with that of a layer of `masks` masks, each united with `width` equations. None where it is above `budget`.
+fn work_with(work: u32, masks: usize, width: u32, budget: u32) -> Option<u32>
+    ensures { result ≡ (if nat_le (work + masks * width) budget then Some (work + masks * width) else None) }
+{
+    let more = u128::from(work) + masks as u128 * u128::from(width);
+    if more <= u128::from(budget) {
+        Some(more as u32)
+    } else {
+        None
+    }
+}
+
+/// Lets the children of the masks of a layer wait at the next level, except those that cost more than `bound`.
+///
+/// The children of each mask are put in the order of their cost, so that the frontier takes those of one cost together.
+fn expand_layer(
+    alloc: Global,
+    equations: &Equations,
+    layer: &Layer,
+    bound: u32,
+    frontier: &mut Frontier,
+) -> Result<(), NoMemory>
+    requires { layer.now.level < length (members equations.now.targets) }
+    ensures { OnOk result (WaitsToo frontier.old frontier.new (layer.now.level + 1)
+        (children equations.now layer.now.level bound layer.now.masks)) }
+{
+    let mut united = Vec::new(alloc);
+    for place in 0..layer.masks.len() {
+        united.clear();
+        expand(equations, layer, place, place + 1, bound, &mut united)?;
+        united.sort_unstable_by_key(|mask| cost_of(*mask));
+        frontier.add(layer.level + 1, &united)?;
+    }
+    Ok(())
+}
