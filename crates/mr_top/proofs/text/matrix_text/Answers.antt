@@ -1,0 +1,23 @@
+use Rattle.std.proofs.lemmas.Result.{err_from_is_err_and}
+use Rattle.mr_bits.specs.declared.errors.What.TheVariants.{MatrixBytes}
+use Rattle.mr_form.specs.MatrixText.{matrix_of}
+use Rattle.mr_top.specs.Answer.{matrix_file, or_matrix_fault, text_file}
+use Rattle.mr_top.specs.Readings.{given}
+use Rattle.mr_top.proofs.Chains.{reads_err, reads_given, reads_named, reads_then}
+use Rattle.mr_top.proofs.text.matrix_text.Goals as goal
+
+pub returns-in_err-bytes-clause-reads : goal.returns-in_err-bytes-clause-reads
+unfolding matrix_file
+returns-in_err-bytes-clause-reads g c =
+    let p = err_from_is_err_and c.from_residual.result c.from_residual.ensures.1 in
+    rw (p.1, p.2) (reads_err (λ bytes. bytes.items) (λ m. m) _ _ _
+    (λ contents. text_file contents c.args.name.now MatrixBytes) (λ contents bytes. given (or_matrix_fault (matrix_of bytes)))
+    c.in_err-bytes.ensures.reads)
+
+pub returns-clause-reads : goal.returns-clause-reads
+unfolding matrix_file
+returns-clause-reads g c = reads_then (λ bytes. bytes.items) (λ m. m) _ _ _ c.in_ok-bytes.bytes _
+    (λ contents. text_file contents c.args.name.now MatrixBytes) (λ contents bytes. given (or_matrix_fault (matrix_of bytes)))
+    c.in_ok-bytes.ensures.reads
+    (reads_named (λ m. m) _ _ _ (λ bytes _. given (or_matrix_fault (matrix_of bytes))) c.deref.ensures.value
+    (reads_given (λ m. m) _ _ (or_matrix_fault (matrix_of c.deref.result.now)) c.matrix_in.ensures.given))

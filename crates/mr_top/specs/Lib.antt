@@ -1,0 +1,10 @@
+pub mod Faults
+pub mod Readings
+pub mod Steps
+pub mod Requests
+pub mod Losses
+pub mod CheckReply
+pub mod PlanReply
+pub mod Answer
+pub mod Replies
+pub mod Run

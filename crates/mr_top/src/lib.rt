@@ -1,0 +1,21 @@
+//! The top call of `minread`: words and files in, an answer and a report out.
+#![tactic(auto)]
+
+mod check;
+mod choice_line;
+mod fault;
+mod loss;
+mod make;
+mod plan;
+mod reply;
+mod request;
+mod text;
+mod top;
+mod words;
+
+pub use choice_line::ChoiceLine;
+pub use fault::Fault;
+pub use reply::Reply;
+pub use request::Request;
+pub use top::run;
+pub use words::read_words;
