@@ -1,7 +1,7 @@
 //! Calls of the crates below the top one, each with ample memory: their answers for row-diagonal parity of the
 //! prime 3 with device 0 lost. A set of symbols is the number whose bit i tells of symbol i.
 
-use crate::tests::values::{R3, assert_masks, matrix_of, problem_of, survivors};
+use crate::tests::values::{RDP_3, assert_masks, matrix_of, problem_of, survivors};
 use mr_bits::{Mask, Matrix};
 use mr_eq::{Equations, Problem};
 use mr_front::{Frontier, Layer, expand};
@@ -20,7 +20,7 @@ fn basis_of(rt: &impl Abort, matrix: &Matrix, lost: Mask) -> Basis {
 /// one, 2 4 5 6, 2 3 5 7 and 3 4 6 7. There are more than 3 of them.
 #[test]
 fn nulls(rt: HostRuntime) -> Result<(), Fail> {
-    let matrix = matrix_of(&rt, R3);
+    let matrix = matrix_of(&rt, RDP_3);
     let basis = basis_of(&rt, &matrix, Mask::of(3));
     assert_eq!(rt; basis.kept().number(), 60, "the kept symbols");
     assert_eq!(rt; basis.d(), 2, "how many are not kept");
@@ -40,7 +40,7 @@ fn nulls(rt: HostRuntime) -> Result<(), Fail> {
 /// The combinations of rows: that of symbol 0 is 2 4, of symbol 1 is 3 5, and no column is left out.
 #[test]
 fn combinations(rt: HostRuntime) -> Result<(), Fail> {
-    let matrix = matrix_of(&rt, R3);
+    let matrix = matrix_of(&rt, RDP_3);
     let basis = basis_of(&rt, &matrix, Mask::of(3));
     for (row, combination) in [(1, 20), (2, 40), (0, 0), (3, 60), (4, 4)] {
         let found = basis.combination(Mask::of(row));
@@ -60,7 +60,7 @@ fn combinations(rt: HostRuntime) -> Result<(), Fail> {
 /// The parts of the problem, of which each symbol has more than 3 equations.
 #[test]
 fn problem(rt: HostRuntime) -> Result<(), Fail> {
-    let matrix = matrix_of(&rt, R3);
+    let matrix = matrix_of(&rt, RDP_3);
     let problem = problem_of(&rt, &matrix, Mask::of(3));
     assert_eq!(rt; problem.targets().number(), 3);
     assert_eq!(rt; problem.levels(), 2);
@@ -98,7 +98,7 @@ fn equations_of(
 /// equations: there are two of two members for each symbol, and the lesser number is the first.
 #[test]
 fn equations(rt: HostRuntime) -> Result<(), Fail> {
-    let problem = problem_of(&rt, &matrix_of(&rt, R3), Mask::of(3));
+    let problem = problem_of(&rt, &matrix_of(&rt, RDP_3), Mask::of(3));
     let first = equations_of(&rt, rt.alloc(), &problem, 0)?;
     assert_masks(&rt, &first, &[20, 96, 184, 204, 20]);
     let second = equations_of(&rt, rt.alloc(), &problem, 1)?;
@@ -134,7 +134,7 @@ fn layers(rt: HostRuntime) -> Result<(), Fail> {
         ((4, 2), &[60, 92, 184, 204, 228, 240], &[]),
     ];
     let alloc = rt.alloc();
-    let problem = problem_of(&rt, &matrix_of(&rt, R3), Mask::of(3));
+    let problem = problem_of(&rt, &matrix_of(&rt, RDP_3), Mask::of(3));
     let equations = Equations::of(alloc, &problem, 4)?;
     let mut frontier = Frontier::new(alloc)?;
     for (place, masks, children) in cases {
@@ -177,7 +177,7 @@ fn equal_masks(rt: HostRuntime) -> Result<(), Fail> {
 #[test]
 fn parts_of_a_layer(rt: HostRuntime) -> Result<(), Fail> {
     let alloc = rt.alloc();
-    let problem = problem_of(&rt, &matrix_of(&rt, R3), Mask::of(3));
+    let problem = problem_of(&rt, &matrix_of(&rt, RDP_3), Mask::of(3));
     let equations = Equations::of(alloc, &problem, 4)?;
     let mut frontier = Frontier::new(alloc)?;
     frontier.add(1, &[Mask::of(20), Mask::of(96)])?;

@@ -1,7 +1,7 @@
 //! Files that are not read and sinks that do not take: each call of the outside fails in turn.
 
 use crate::tests::fixture::{Ran, SOUND, Schedule, assert_counts, assert_left, run_by};
-use crate::tests::values::{Puts, R3, WHOLE};
+use crate::tests::values::{Puts, RDP_3, WHOLE};
 use std::alloc::Global;
 use std::process::Abort;
 use std::test::Fail;
@@ -23,7 +23,7 @@ const BYTEWISE: [usize; 80] = [1; 80];
 
 /// A run by the usual words.
 fn plan_by(alloc: Global, schedule: Schedule<'_>) -> Result<Ran, Fail> {
-    run_by(alloc, schedule, &WORDS, &[("m", R3.as_bytes())])
+    run_by(alloc, schedule, &WORDS, &[("m", RDP_3.as_bytes())])
 }
 
 /// The three calls of the eye fail in turn: the call for it, its length and its read. So does a report after it. A call
@@ -67,7 +67,7 @@ fn no_file(rt: HostRuntime) -> Result<(), Fail> {
             rt.alloc(),
             SOUND,
             &["plan", name, "9"],
-            &[("m", R3.as_bytes())],
+            &[("m", RDP_3.as_bytes())],
         )?;
         assert_left(&rt, &ran, 9, b"", b"status 9 read\n");
         assert_counts(&rt, &ran, [1, 0, 0], 0);
@@ -148,7 +148,7 @@ fn assert_out_cut(
             ..WHOLE
         };
         let schedule = Schedule { out: puts, ..SOUND };
-        let ran = run_by(alloc, schedule, words, &[("m", R3.as_bytes())])?;
+        let ran = run_by(alloc, schedule, words, &[("m", RDP_3.as_bytes())])?;
         assert_left(rt, &ran, 10, &out[..taken], WRITE.as_bytes());
         assert_counts(rt, &ran, [0, 1, 0], read);
     }
@@ -160,7 +160,7 @@ fn assert_out_cut(
 fn bytes_of_out(rt: HostRuntime) -> Result<(), Fail> {
     assert_out_cut(&rt, rt.alloc(), &WORDS, OUT, 55)?;
     let make = ["make", "rdp", "3"];
-    assert_out_cut(&rt, rt.alloc(), &make, R3, 0)?;
+    assert_out_cut(&rt, rt.alloc(), &make, RDP_3, 0)?;
     let schedule = Schedule {
         report: Puts {
             fails: &[1],
@@ -169,7 +169,7 @@ fn bytes_of_out(rt: HostRuntime) -> Result<(), Fail> {
         ..SOUND
     };
     let ran = run_by(rt.alloc(), schedule, &make, &[])?;
-    assert_left(&rt, &ran, 0, R3.as_bytes(), b"");
+    assert_left(&rt, &ran, 0, RDP_3.as_bytes(), b"");
     assert_counts(&rt, &ran, [0, 0, 0], 0);
     Ok(())
 }
@@ -313,7 +313,7 @@ fn assert_line_cut(
 #[test]
 fn fault_lines(rt: HostRuntime) -> Result<(), Fail> {
     let cases: [(&[&str], &str, u8, &str); 6] = [
-        (&["plan", "m"], R3, 1, "status 1 usage\n"),
+        (&["plan", "m"], RDP_3, 1, "status 1 usage\n"),
         (
             &["plan", "m", "0"],
             "matrix 1 2 1 1\n1\n",
@@ -326,14 +326,14 @@ fn fault_lines(rt: HostRuntime) -> Result<(), Fail> {
             3,
             "status 3 large columns 129\n",
         ),
-        (&["plan", "m", "4"], R3, 4, "status 4 device 4\n"),
+        (&["plan", "m", "4"], RDP_3, 4, "status 4 device 4\n"),
         (
             &["plan", "m", "0,1,2"],
-            R3,
+            RDP_3,
             7,
             "status 7 undetermined symbol 0\n",
         ),
-        (&["plan", "q", "0"], R3, 9, "status 9 read\n"),
+        (&["plan", "q", "0"], RDP_3, 9, "status 9 read\n"),
     ];
     for (words, text, status, line) in cases {
         assert_line_cut(&rt, rt.alloc(), words, text, status, line)?;
@@ -364,7 +364,7 @@ fn out_is_left(rt: HostRuntime) -> Result<(), Fail> {
             },
             ..SOUND
         };
-        let ran = run_by(rt.alloc(), schedule, words, &[("m", R3.as_bytes())])?;
+        let ran = run_by(rt.alloc(), schedule, words, &[("m", RDP_3.as_bytes())])?;
         assert_left(&rt, &ran, status, b"", line.as_bytes());
         assert_counts(&rt, &ran, faults, read);
     }

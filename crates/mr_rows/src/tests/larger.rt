@@ -1,7 +1,7 @@
 //! Plans for the larger matrices of the makers.
 
 use crate::tests::fixture::{Case, SOUND, assert_answer, assert_case, run_by};
-use crate::tests::values::R5;
+use crate::tests::values::RDP_5;
 use std::alloc::Global;
 use std::process::Abort;
 use std::test::Fail;
@@ -17,7 +17,7 @@ fn rdp_five(rt: HostRuntime) -> Result<(), Fail> {
         Case {
             words: &words,
             status: 0,
-            out: R5,
+            out: RDP_5,
             report: "",
         },
     );
@@ -27,7 +27,7 @@ fn rdp_five(rt: HostRuntime) -> Result<(), Fail> {
         out: "plan 1 least\nset 4 6 7 10 11 14 15 17 18 19 20 21\n0 = 11 14 17 20\n1 = 4 15 18 21\n2 = 6 10 14 18\n3 = 7 11 15 19\nend\n",
         report: "least cost 12 work 976\n",
     };
-    assert_case(&rt, rt.alloc(), R5.as_bytes(), case)
+    assert_case(&rt, rt.alloc(), RDP_5.as_bytes(), case)
 }
 
 /// Asserts what the plan for the loss of a device of a maker's matrix begins with, and its line.

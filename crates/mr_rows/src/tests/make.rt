@@ -3,7 +3,7 @@
 use crate::tests::fixture::{
     Case, SOUND, Schedule, assert_answer, assert_case, assert_counts, run_by,
 };
-use crate::tests::values::R3;
+use crate::tests::values::RDP_3;
 use mr_form::read_matrix;
 use std::alloc::Global;
 use std::process::Abort;
@@ -17,9 +17,9 @@ const E3: &str =
 #[test]
 fn prime_three(rt: HostRuntime) -> Result<(), Fail> {
     let cases: [(&[&str], &str); 3] = [
-        (&["make", "rdp", "3"], R3),
+        (&["make", "rdp", "3"], RDP_3),
         (&["make", "evenodd", "3"], E3),
-        (&["make", "--", "rdp", "3"], R3),
+        (&["make", "--", "rdp", "3"], RDP_3),
     ];
     for (words, out) in cases {
         let schedule = Schedule {

@@ -1,7 +1,7 @@
 //! The command `plan`: which sets it chooses, and what it refuses.
 
 use crate::tests::fixture::{Case, assert_case, refused};
-use crate::tests::values::R3;
+use crate::tests::values::RDP_3;
 use std::test::Fail;
 
 /// The plan for row-diagonal parity of the prime 3 with device 0 lost.
@@ -42,7 +42,7 @@ fn budgets(rt: HostRuntime) -> Result<(), Fail> {
                 out,
                 report,
             };
-            assert_case(&rt, rt.alloc(), R3.as_bytes(), case)?;
+            assert_case(&rt, rt.alloc(), RDP_3.as_bytes(), case)?;
         }
     }
     Ok(())
@@ -99,7 +99,7 @@ fn losses(rt: HostRuntime) -> Result<(), Fail> {
             out: &out,
             report: &report,
         };
-        assert_case(&rt, rt.alloc(), R3.as_bytes(), case)?;
+        assert_case(&rt, rt.alloc(), RDP_3.as_bytes(), case)?;
     }
     Ok(())
 }
@@ -109,14 +109,14 @@ fn losses(rt: HostRuntime) -> Result<(), Fail> {
 #[test]
 fn refusals(rt: HostRuntime) -> Result<(), Fail> {
     let cases = [
-        (R3, "4", 4, "status 4 device 4\n"),
-        (R3, "0,4", 4, "status 4 device 4\n"),
-        (R3, "3,5,6", 4, "status 4 device 5\n"),
+        (RDP_3, "4", 4, "status 4 device 4\n"),
+        (RDP_3, "0,4", 4, "status 4 device 4\n"),
+        (RDP_3, "3,5,6", 4, "status 4 device 5\n"),
         // This comes before the question whether the others determine the loss.
-        (R3, "0,1,2,999999999", 4, "status 4 device 999999999\n"),
-        (R3, "0,1,2", 7, "status 7 undetermined symbol 0\n"),
-        (R3, "0,1,2,3", 7, "status 7 undetermined symbol 0\n"),
-        (R3, "1,2,3", 7, "status 7 undetermined symbol 2\n"),
+        (RDP_3, "0,1,2,999999999", 4, "status 4 device 999999999\n"),
+        (RDP_3, "0,1,2", 7, "status 7 undetermined symbol 0\n"),
+        (RDP_3, "0,1,2,3", 7, "status 7 undetermined symbol 0\n"),
+        (RDP_3, "1,2,3", 7, "status 7 undetermined symbol 2\n"),
         // The one survivor is the row of symbol 0, so symbol 1 is the first that is open.
         (
             "matrix 1 3 1 2\n10\n01\n10\n",

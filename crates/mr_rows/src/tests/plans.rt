@@ -1,6 +1,6 @@
 //! Plans as values: their text both ways, and the checker.
 
-use crate::tests::values::{R3, WHOLE, matrix_of, shown, sink_of};
+use crate::tests::values::{RDP_3, WHOLE, matrix_of, shown, sink_of};
 use mr_bits::{Mask, Matrix};
 use mr_plan::{Kind, Plan, PlanLine, Recipe, Why, Wrong, check};
 use std::alloc::Global;
@@ -147,7 +147,7 @@ fn reasons(rt: HostRuntime) -> Result<(), Fail> {
         ("set 3 5 6 7\n0 = 3\n1 = 2\n", 0, Why::Sum),
         ("set 3 5 6 7\n0 = 5 6\n1 = 2\n", 1, Why::Outside),
     ];
-    let matrix = matrix_of(&rt, R3);
+    let matrix = matrix_of(&rt, RDP_3);
     for (lines, symbol, why) in cases {
         let found = checked(&rt, rt.alloc(), &matrix, Mask::of(3), lines)?;
         assert_eq!(rt; found, Err(Wrong { symbol, why }), "{lines:?}");
@@ -168,7 +168,7 @@ fn valid(rt: HostRuntime) -> Result<(), Fail> {
             "set 4 5 6 7\n0 = 5 6\n1 = 4 5 6 7\n2 = 4 5 6\n3 = 4 6 7\n",
         ),
     ];
-    let matrix = matrix_of(&rt, R3);
+    let matrix = matrix_of(&rt, RDP_3);
     for (lost, lines) in cases {
         let found = checked(&rt, rt.alloc(), &matrix, Mask::of(lost), lines)?;
         assert_eq!(rt; found, Ok(()), "{lines:?}");

@@ -1,6 +1,6 @@
 //! The search, beside a slow choice among all sets of survivors.
 
-use crate::tests::values::{R3, matrix_of, problem_of, try_problem};
+use crate::tests::values::{RDP_3, matrix_of, problem_of, try_problem};
 use mr_bits::Mask;
 use mr_eq::{Found, Undetermined};
 use mr_front::search_one;
@@ -129,7 +129,7 @@ fn mask(set: u8) -> Mask {
 fn assert_choice(rt: &impl Abort, alloc: Global, lost: u8) -> Result<(), Fail> {
     let best = slow_best(lost);
     let work = u32::try_from(slow_work(lost, best.count_ones()))?;
-    let problem = problem_of(rt, &matrix_of(rt, R3), mask(lost));
+    let problem = problem_of(rt, &matrix_of(rt, RDP_3), mask(lost));
     let found = search_one(alloc, &problem, work)?;
     assert_eq!(rt;
         found,
@@ -181,7 +181,7 @@ fn three_devices(rt: HostRuntime) -> Result<(), Fail> {
     for kept in DEVICES {
         assert!(rt; !is_good(kept, !kept), "the devices other than {kept}");
         let lost = mask(!kept);
-        let found = try_problem(&rt, &matrix_of(&rt, R3), lost);
+        let found = try_problem(&rt, &matrix_of(&rt, RDP_3), lost);
         let least = if kept == 3 { 2 } else { 0 };
         match found {
             Ok(_) => assert!(rt; false, "determined by {kept}"),

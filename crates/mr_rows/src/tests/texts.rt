@@ -1,7 +1,7 @@
 //! Matrix texts, and the place at which each of the wrong ones is refused.
 
 use crate::tests::fixture::{SOUND, assert_answer, assert_case, assert_counts, refused, run_by};
-use crate::tests::values::R3;
+use crate::tests::values::RDP_3;
 use std::test::Fail;
 
 /// The words of these tests. Device 9 is none, so that a matrix is refused before a lost device is.
@@ -116,7 +116,7 @@ fn edits(rt: HostRuntime) -> Result<(), Fail> {
     assert_case(
         &rt,
         rt.alloc(),
-        R3.as_bytes(),
+        RDP_3.as_bytes(),
         refused(&WORDS, 4, "status 4 device 9\n"),
     )
 }

@@ -1,7 +1,7 @@
 //! The loss of device 0 of row-diagonal parity for the prime 5: it is read from 12 symbols in place of 16, and from no
 //! fewer.
 
-use crate::tests::values::{R5, matrix_of, problem_of};
+use crate::tests::values::{RDP_5, matrix_of, problem_of};
 use mr_bits::Mask;
 use mr_eq::Found;
 use mr_front::search_one;
@@ -78,7 +78,7 @@ fn twelve_symbols(rt: HostRuntime) -> Result<(), Fail> {
         twelve = twelve.with(symbol);
     }
     assert_eq!(rt; twelve.count(), 12);
-    let problem = problem_of(&rt, &matrix_of(&rt, R5), Mask::of(15));
+    let problem = problem_of(&rt, &matrix_of(&rt, RDP_5), Mask::of(15));
     let found = search_one(rt.alloc(), &problem, 4_194_304)?;
     assert_eq!(rt;
         found,
@@ -93,7 +93,7 @@ fn twelve_symbols(rt: HostRuntime) -> Result<(), Fail> {
 /// No set of fewer survivors has an equation of each lost symbol.
 #[test]
 fn no_fewer_symbols(rt: HostRuntime) -> Result<(), Fail> {
-    let rows = rows_of(rt.alloc(), R5)?;
+    let rows = rows_of(rt.alloc(), RDP_5)?;
     assert!(rt; rows.len() >= 24);
     let (lower, higher) = (sums(&rows[4..14]), sums(&rows[14..24]));
     let mut lists = Vec::new(rt.alloc());

@@ -11,10 +11,10 @@ use std::process::Abort;
 use std::test::Fail;
 
 /// The matrix of row-diagonal parity for the prime 3.
-pub const R3: &str = "matrix 1 4 2 4\n1000\n0100\n0010\n0001\n1010\n0101\n1101\n0110\n";
+pub const RDP_3: &str = "matrix 1 4 2 4\n1000\n0100\n0010\n0001\n1010\n0101\n1101\n0110\n";
 
 /// The matrix of row-diagonal parity for the prime 5.
-pub const R5: &str = "matrix 1 6 4 16
+pub const RDP_5: &str = "matrix 1 6 4 16
 1000000000000000
 0100000000000000
 0010000000000000

@@ -1,7 +1,7 @@
 //! The words of the command line.
 
 use crate::tests::fixture::{Case, SOUND, Schedule, assert_answer, assert_counts, refused, run_by};
-use crate::tests::values::R3;
+use crate::tests::values::RDP_3;
 use std::alloc::Global;
 use std::process::Abort;
 use std::test::Fail;
@@ -129,7 +129,7 @@ fn assert_usage(rt: &impl Abort, alloc: Global, words: &[&str]) -> Result<(), Fa
         eyes: &[(1, 0)],
         ..SOUND
     };
-    let ran = run_by(alloc, schedule, words, &[("m", R3.as_bytes())])?;
+    let ran = run_by(alloc, schedule, words, &[("m", RDP_3.as_bytes())])?;
     assert_answer(rt, &ran, refused(words, 1, "status 1 usage\n"));
     assert_counts(rt, &ran, [0, 0, 0], 0);
     Ok(())
@@ -196,7 +196,7 @@ plan --workers 64 --budget 11 m 0";
         for word in line.split(' ') {
             words.push(word)?;
         }
-        let ran = run_by(rt.alloc(), SOUND, &words, &[("m", R3.as_bytes())])?;
+        let ran = run_by(rt.alloc(), SOUND, &words, &[("m", RDP_3.as_bytes())])?;
         let case = Case {
             words: &words,
             status: 0,
@@ -221,7 +221,7 @@ fn names(rt: HostRuntime) -> Result<(), Fail> {
         ("a b", &["plan", "a b", "0"]),
     ];
     for (name, words) in cases {
-        let ran = run_by(rt.alloc(), SOUND, words, &[(name, R3.as_bytes())])?;
+        let ran = run_by(rt.alloc(), SOUND, words, &[(name, RDP_3.as_bytes())])?;
         let case = Case {
             words,
             status: 0,
