@@ -2,6 +2,7 @@
 
 mod adapters;
 mod calls;
+mod check;
 mod failing;
 mod fixture;
 mod larger;

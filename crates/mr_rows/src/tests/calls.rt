@@ -123,32 +123,53 @@ fn assert_layer(
     Ok(())
 }
 
-/// The layers from the first to the last, with the children of each that cost at most 4.
+/// A layer: its cost and level, its masks, and their children.
+type Row<'a> = ((u32, u8), &'a [u128], &'a [u128]);
+
+/// Asserts the layers from the first to the last of the problem of a loss, with the children that cost at most 4.
+fn assert_layers(rt: &impl Abort, alloc: Global, lost: Mask, rows: &[Row<'_>]) -> Result<(), Fail> {
+    let problem = problem_of(rt, &matrix_of(rt, RDP_3), lost);
+    let equations = Equations::of(alloc, &problem, 4)?;
+    let mut frontier = Frontier::new(alloc)?;
+    for (place, masks, children) in rows {
+        let layer = frontier.take_layer().expect(rt, "a layer waits");
+        assert_layer(rt, alloc, &layer, *place, masks)?;
+        let mut made = Vec::new(alloc);
+        if layer.level < problem.levels() {
+            expand(&equations, &layer, 0, layer.masks.len(), 4, &mut made)?;
+            frontier.add(layer.level + 1, &made)?;
+        }
+        assert_masks(rt, &made, children);
+    }
+    assert!(rt; frontier.take_layer().is_none(), "a layer waits");
+    Ok(())
+}
+
+/// The layers for device 0.
 #[test]
 fn layers(rt: HostRuntime) -> Result<(), Fail> {
-    let cases: [((u32, u8), &[u128], &[u128]); 5] = [
+    let rows: [Row<'_>; 5] = [
         ((0, 0), &[0], &[20, 96, 184, 204]),
         ((2, 1), &[20, 96], &[60, 92, 148, 104, 228, 240]),
         ((3, 2), &[104, 148], &[]),
         ((4, 1), &[184, 204], &[184, 204]),
         ((4, 2), &[60, 92, 184, 204, 228, 240], &[]),
     ];
-    let alloc = rt.alloc();
-    let problem = problem_of(&rt, &matrix_of(&rt, RDP_3), Mask::of(3));
-    let equations = Equations::of(alloc, &problem, 4)?;
-    let mut frontier = Frontier::new(alloc)?;
-    for (place, masks, children) in cases {
-        let layer = frontier.take_layer().expect(&rt, "a layer waits");
-        assert_layer(&rt, alloc, &layer, place, masks)?;
-        let mut made = Vec::new(alloc);
-        if layer.level < problem.levels() {
-            expand(&equations, &layer, 0, layer.masks.len(), 4, &mut made)?;
-            frontier.add(layer.level + 1, &made)?;
-        }
-        assert_masks(&rt, &made, children);
-    }
-    assert!(rt; frontier.take_layer().is_none(), "a layer waits");
-    Ok(())
+    assert_layers(&rt, rt.alloc(), Mask::of(3), &rows)
+}
+
+/// The layers for device 3, whose least sets cost as much as the plain one: those before the last have 1, 1, 2 and 1
+/// masks.
+#[test]
+fn many_ties(rt: HostRuntime) -> Result<(), Fail> {
+    let rows: [Row<'_>; 5] = [
+        ((0, 0), &[0], &[11, 30, 33, 52]),
+        ((2, 1), &[33], &[39, 51, 45, 57]),
+        ((3, 1), &[11, 52], &[15, 27, 54, 60]),
+        ((4, 1), &[30], &[30]),
+        ((4, 2), &[15, 27, 30, 39, 45, 51, 54, 57, 60], &[]),
+    ];
+    assert_layers(&rt, rt.alloc(), Mask::of(192), &rows)
 }
 
 /// Equal masks that wait at one level are one, and those of another level wait apart.

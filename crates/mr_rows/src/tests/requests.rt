@@ -27,7 +27,7 @@ fn assert_plan(
             assert_eq!(rt; lost.as_str(), names.1, "the lost devices");
             assert_eq!(rt; (workers, budget), numbers, "the workers and the budget");
         }
-        _ => assert!(rt; false, "{words:?} ask for something else"),
+        _other => assert!(rt; false, "{words:?} ask for something else"),
     }
     Ok(())
 }
@@ -59,6 +59,21 @@ fn plan(rt: HostRuntime) -> Result<(), Fail> {
     Ok(())
 }
 
+/// The names of `check`.
+#[test]
+fn check(rt: HostRuntime) -> Result<(), Fail> {
+    let words = words_of(rt.alloc(), &["check", "m", "--", "0,3", "-p"])?;
+    match read_words(rt.alloc(), &words)? {
+        Request::Check { matrix, lost, plan } => {
+            assert_eq!(rt; matrix.as_str(), "m", "the matrix");
+            assert_eq!(rt; lost.as_str(), "0,3", "the lost devices");
+            assert_eq!(rt; plan.as_str(), "-p", "the plan");
+        }
+        _other => assert!(rt; false, "{words:?} ask for something else"),
+    }
+    Ok(())
+}
+
 /// The code and its prime.
 #[test]
 fn make(rt: HostRuntime) -> Result<(), Fail> {
@@ -73,7 +88,7 @@ fn make(rt: HostRuntime) -> Result<(), Fail> {
                 assert_eq!(rt; code, wanted, "the code of {words:?}");
                 assert_eq!(rt; p, number, "the prime of {words:?}");
             }
-            _ => assert!(rt; false, "{words:?} ask for something else"),
+            _other => assert!(rt; false, "{words:?} ask for something else"),
         }
     }
     Ok(())

@@ -29,6 +29,10 @@ plan m 0 -- 1
 plan -- m 0 --
 plan -- m 0 --budget=11
 plan help
+check
+check m
+check m 0
+check m 0 p 1
 make
 make rdp
 make rdp 3 3
@@ -103,6 +107,10 @@ plan m 0 --=11
 plan -m 0
 plan m -0
 plan m -1
+check m 0 p --workers 2
+check m 0 p --budget 0
+check m 0 --plan p
+check m 0 p --help
 make rdp 3 --workers 2
 make rdp 3 --budget 0
 make --help

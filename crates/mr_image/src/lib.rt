@@ -1,0 +1,10 @@
+//! Images of codes: the head of an image file and the places of its symbols, and the definitions of what is made of an
+//! image: the mended one, near replies, and the codewords that its survivors come from.
+#![tactic(auto)]
+
+mod faults;
+mod heads;
+pub mod laws;
+
+pub use faults::{HeadFault, ImageKind};
+pub use heads::ImageHead;
