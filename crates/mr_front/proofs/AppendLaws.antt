@@ -1,5 +1,5 @@
 -- Masks of one cost and level appended to their list, and the last mask of a list taken away.
-use Rattle.std.proofs.Common.{◌≡◌, ℕ, zero, suc, ◌<◌, ◌≤◌, Bool, true, false, cond, List, [], ◌∷◌, ◌++◌, length, get_or, Option, Some, None, Result, Ok, Err, OnOk, OnErr, option_to_list, refl, sym, ◌∙◌, arith, ap, subst, ⊎_elim, length-append}
+use Rattle.std.proofs.Common.{◌≡◌, ℕ, ◌<◌, Bool, true, false, cond, List, [], ◌∷◌, ◌++◌, length, get_or, Option, Some, None, Result, Ok, Err, OnOk, OnErr, option_to_list, refl, sym, ◌∙◌, arith, ap, subst, ⊎_elim, length-append}
 use Rattle.std.specs.Prelude.{◌==◌}
 use Rattle.std.proofs.lemmas.Bool.{eqb-true, eqb-false}
 use Rattle.std.specs.List.{All, Contains}
@@ -9,7 +9,7 @@ use Rattle.std.specs.Global.{Vec}
 use Rattle.std.proofs.lemmas.List.{get_or_default, same_from_push}
 use Rattle.std.proofs.lemmas.List.Elements.{All-contains, Contains-append_left, Contains-append_cases}
 use Rattle.mr_front.specs.Waiting.{mask_cost, Lists, key_cmp, items_of, masks_at, IsTidy, HasAdded, HasSame, EndsWith}
-use Rattle.mr_front.proofs.ListLaws.{belongs-own, IsPut, put-updates, key-same, added-put, taken-put, tidy-updates, updates-twice}
+use Rattle.mr_front.proofs.ListLaws.{belongs-own, put-updates, key-same, added-put, taken-put, tidy-updates, updates-twice}
 
 pub on_err_from : {T E : Type 0} (r : Result T E) (P : Type 0) → P → OnErr r P
 on_err_from (Ok x) P h = tt

@@ -1,5 +1,5 @@
 -- The children of masks, one after another.
-use Rattle.std.proofs.Common.{◌≡◌, ℕ, zero, suc, ◌+◌, ◌-◌, ◌<◌, ◌≤◌, Bool, true, false, cond, List, [], ◌∷◌, ◌++◌, length, get_or, take, drop, map, flat_map, refl, sym, ◌∙◌, arith, ap, subst, append_assoc, append-nil}
+use Rattle.std.proofs.Common.{◌≡◌, ℕ, suc, ◌+◌, ◌-◌, ◌<◌, ◌≤◌, cond, List, [], ◌∷◌, ◌++◌, length, get_or, take, drop, map, flat_map, refl, sym, ◌∙◌, arith, ap, append_assoc, append-nil}
 use Rattle.std.specs.Prelude.{filter, slice_range, nat_le, bit_or}
 use Rattle.std.proofs.Math.Seq.{take-suc, drop-cons, take-append-add}
 use Rattle.std.proofs.lemmas.List.{take-append-drop, take_all, length-take, length-drop, get_or-drop}

@@ -1,12 +1,11 @@
 -- The list of the least key, taken from all lists, and the layer that it makes.
-use Rattle.std.proofs.Common.{◌≡◌, ℕ, zero, suc, ◌<◌, ◌≤◌, Bool, true, false, cond, List, [], ◌∷◌, ◌++◌, length, Option, Some, None, IfSome, IfNone, refl, sym, ◌∙◌, arith, ap, subst, ⊎_elim}
-use Rattle.std.specs.List.{All, Contains}
+use Rattle.std.proofs.Common.{◌≡◌, ℕ, Option, Some, None, IfSome, IfNone, refl, sym, ◌∙◌, arith, ap, subst}
+use Rattle.std.specs.List.{Contains}
 use Rattle.std.specs.Option.{IsSome}
 use Rattle.std.specs.Map.{lookup}
-use Rattle.std.specs.Ordering.{is_gt}
 use Rattle.std.specs.BTreeMap.{get, is_at, Updates, IsUnchanged, IsLowerBound}
 use Rattle.std.specs.Global.{Vec}
-use Rattle.mr_front.specs.Waiting.{mask_cost, Lists, key_cmp, items_of, masks_at, IsTidy, IsFirstList}
+use Rattle.mr_front.specs.Waiting.{Lists, key_cmp, items_of, IsTidy, IsFirstList}
 use Rattle.mr_front.proofs.ListLaws.{key-le, tidy-updates}
 
 unchanged-tidy : (m n : Lists) → IsTidy m → IsUnchanged m n → IsTidy n

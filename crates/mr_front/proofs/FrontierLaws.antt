@@ -1,13 +1,13 @@
 -- A frontier by the masks that wait: its first layer, what is left, and what is added.
-use Rattle.std.proofs.Common.{◌≡◌, ◌≢◌, ℕ, zero, suc, ◌<◌, ◌≤◌, Bool, true, false, cond, List, [], ◌∷◌, ◌++◌, length, get_or, Option, None, Some, IfNone, IfSome, Result, Ok, Err, OnOk, OnErr, ◌⊎◌, inl, inr, refl, sym, ◌∙◌, arith, ap, subst, ⊎_elim}
-use Rattle.std.specs.Prelude.{◌==◌, ◌&&◌, ◌↔◌, filter}
-use Rattle.std.specs.List.{All, Contains}
+use Rattle.std.proofs.Common.{◌≡◌, ℕ, zero, suc, ◌<◌, ◌≤◌, Bool, true, false, cond, List, [], ◌∷◌, length, get_or, Option, None, Some, IfNone, inl, inr, refl, sym, ◌∙◌, arith, ap, subst, ⊎_elim}
+use Rattle.std.specs.Prelude.{◌==◌, ◌↔◌, filter}
+use Rattle.std.specs.List.{Contains}
 use Rattle.std.specs.List.Sorted.{IsStrictlyIncreasing}
-use Rattle.std.proofs.lemmas.Bool.{and_parts, and_from, both_ways, eqb-true, eq-eqb, cases_eq, cases_Bool}
+use Rattle.std.proofs.lemmas.Bool.{and_parts, and_from, eqb-true, eq-eqb}
 use Rattle.std.proofs.lemmas.List.Elements.{All-filter, filter_passes, All-contains, All-contains_itself, Contains-append_left, Contains-append_right, Contains-append_cases}
 use Rattle.mr_front.specs.declared.layers.Layer.{Layer}
 use Rattle.mr_front.specs.declared.frontier.Frontier.{Frontier}
-use Rattle.mr_front.specs.Waiting.{mask_cost, Lists, masks_at, IsTidy, belongs, HasAdded, HasSame, IsFirstList, IsWithout}
+use Rattle.mr_front.specs.Waiting.{mask_cost, masks_at, IsTidy, belongs, HasAdded, HasSame, IsFirstList, IsWithout}
 use Rattle.mr_front.specs.Frontiers.{Waits, IsFirstLayer, IsRest, WaitsToo, WaitsSame}
 
 -- ---- lists

@@ -13,3 +13,4 @@ pub mod SearchSteps
 pub mod UnionLaws
 pub mod LossSteps
 pub mod SearchAnswers
+pub mod GroupLaws

@@ -1,16 +1,14 @@
 -- Lists by cost and level: what a change at one key does to all of them.
-use Rattle.std.proofs.Common.{◌≡◌, ℕ, zero, suc, ◌<◌, ◌≤◌, Bool, true, false, cond, List, [], ◌∷◌, ◌++◌, length, get_or, Option, Some, None, ◌⊎◌, inl, inr, refl, sym, ◌∙◌, arith, ap, ap₂, subst, ⊎_elim, append-nil, append_assoc}
+use Rattle.std.proofs.Common.{◌≡◌, ℕ, zero, suc, ◌<◌, ◌≤◌, Bool, true, false, cond, List, [], ◌∷◌, ◌++◌, length, get_or, Option, Some, ◌⊎◌, inl, inr, refl, sym, ◌∙◌, arith, ap, ap₂, subst, ⊎_elim, append-nil}
 use Rattle.std.specs.Prelude.{◌==◌, ◌&&◌, filter, nat_lt}
 use Rattle.std.specs.List.{All, Contains}
 use Rattle.std.specs.Ordering.{nat_cmp, ordering_then, is_eq, is_gt}
-use Rattle.std.specs.declared.cmp.Ordering.{Ordering}
 use Rattle.std.specs.declared.cmp.Ordering.TheVariants.{Less, Equal, Greater}
 use Rattle.std.specs.BTreeMap.{get, is_at}
 use Rattle.std.specs.Global.{Vec}
 use Rattle.std.specs.Cmp.{tied_then}
-use Rattle.std.proofs.lemmas.Bool.{and_parts, and_from, and_left, and_right, both_ways, eqb-true, eq-eqb, ne_eqb, leb-true, leb-false, lt-leb, le-leb, cases_eq, cases_lt, cases_order, cases_Bool}
-use Rattle.std.proofs.lemmas.List.Elements.{filter-append, filter_passes, All-contains, Contains-append_left, Contains-append_right, Contains-append_cases, Contains-push}
-use Rattle.mr_front.specs.Waiting.{mask_cost, Lists, key_cmp, items_of, masks_at, IsTidy, belongs, HasAdded, HasSame}
+use Rattle.std.proofs.lemmas.Bool.{and_parts, and_from, both_ways, eqb-true, eq-eqb, ne_eqb, lt-leb, cases_eq, cases_lt}
+use Rattle.mr_front.specs.Waiting.{mask_cost, Lists, key_cmp, items_of, masks_at, IsTidy, belongs, HasAdded}
 
 -- ---- keys
 

@@ -1,12 +1,12 @@
 -- The search of a loss by a frontier: its layers are those of the search, and what is answered is the choice.
-use Rattle.std.proofs.Common.{◌≡◌, ◌≢◌, ℕ, zero, suc, ◌+◌, ◌*◌, ◌^◌, ◌<◌, ◌≤◌, Bool, true, false, cond, List, [], ◌∷◌, length, get_or, ◌⊎◌, inl, inr, refl, sym, ◌∙◌, arith, ap, ap₂, subst, ⊎_elim, add-one}
-use Rattle.std.specs.Prelude.{◌↔◌, nat_le, bit_or, count_ones}
+use Rattle.std.proofs.Common.{◌≡◌, ℕ, suc, ◌+◌, ◌<◌, ◌≤◌, true, cond, List, [], ◌∷◌, length, get_or, inl, inr, refl, sym, ◌∙◌, arith, ap, ap₂, subst, ⊎_elim, add-one}
+use Rattle.std.specs.Prelude.{◌↔◌}
 use Rattle.std.specs.List.{Contains}
 use Rattle.std.proofs.lemmas.Bool.{le-leb, lt-leb}
 use Rattle.mr_model.specs.Sets.{within}
 use Rattle.mr_model.specs.Members.{members}
 use Rattle.mr_model.specs.Code.{cost, plain}
-use Rattle.mr_model.specs.Search.{Search, Choice, Least, Spent, choice, is_good, is_node, least_cost, best, work}
+use Rattle.mr_model.specs.Search.{Least, Spent, choice, is_node, least_cost, best, work}
 use Rattle.mr_model.specs.Choice.{choice_of}
 use Rattle.mr_model.proofs.SetLaws.{Within-le, true-within, Within-zero, within-true}
 use Rattle.mr_model.proofs.CostLaws.{cost-count}

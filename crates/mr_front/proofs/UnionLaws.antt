@@ -1,13 +1,11 @@
 -- What stands among the children of masks, and masks that were added part by part.
-use Rattle.std.proofs.Common.{◌≡◌, ℕ, zero, suc, ◌+◌, ◌<◌, ◌≤◌, Bool, true, false, cond, List, [], ◌∷◌, ◌++◌, length, take, map, flat_map, get_or, ◌⊎◌, inl, inr, refl, sym, ◌∙◌, arith, ap, subst, ⊎_elim}
-use Rattle.std.specs.Prelude.{filter, slice_range, ◌↔◌, ◌&&◌, nat_le, bit_or}
+use Rattle.std.proofs.Common.{◌≡◌, ℕ, zero, suc, ◌+◌, ◌<◌, ◌≤◌, Bool, true, false, cond, List, [], ◌∷◌, ◌++◌, length, take, map, flat_map, ◌⊎◌, inl, inr, refl, sym, ◌∙◌, arith, ap, subst, ⊎_elim}
+use Rattle.std.specs.Prelude.{filter, slice_range, ◌&&◌, nat_le, bit_or}
 use Rattle.std.specs.List.{Contains, range_with_len}
 use Rattle.std.proofs.lemmas.Bool.{and_parts, and_from, both_ways, leb-true, le-leb}
 use Rattle.std.proofs.lemmas.List.FromFn.{length-range_with_len}
 use Rattle.std.proofs.lemmas.List.Concat.{flat_map-cons, flat_map-append}
 use Rattle.std.proofs.lemmas.List.Elements.{Contains-append_left, Contains-append_right, Contains-append_cases}
-use Rattle.std.specs.List.Sorted.{IsPermutation}
-use Rattle.std.proofs.lemmas.List.Sorted.{Contains-permutation, IsPermutation-sym}
 use Rattle.mr_model.specs.Sets.{has, within, often}
 use Rattle.mr_model.specs.Members.{members}
 use Rattle.mr_model.specs.Code.{is_equation}
@@ -120,12 +118,6 @@ too-more f g h level xs ys a b i u = (
       (λ (right : Contains ys u). (b i u).1 (inr (new.0, right)))
       (Contains-append_cases xs ys u new.1))
       w),
-)
-
-pub too-moved : (g h : Frontier) (level : ℕ) (xs ys : List ℕ) → IsPermutation xs ys → WaitsToo g h level ys → WaitsToo g h level xs
-too-moved g h level xs ys moved too i u = (
-  (λ w. ⊎_elim (λ (old : Waits g i u). inl old) (λ (new : (i ≡ level) × Contains ys u). inr (new.0, Contains-permutation ys xs u (IsPermutation-sym xs ys moved) new.1)) ((too i u).0 w)),
-  (λ w. (too i u).1 (⊎_elim (λ (old : Waits g i u). inl old) (λ (new : (i ≡ level) × Contains xs u). inr (new.0, Contains-permutation xs ys u moved new.1)) w)),
 )
 
 pub too-run : (f g h : Frontier) (p : Loss) (level bound : ℕ) (masks united : List ℕ) (place next : ℕ) → next ≡ suc place

@@ -1,3 +1,4 @@
 pub mod Waiting
 pub mod Frontiers
 pub mod Children
+pub mod Groups

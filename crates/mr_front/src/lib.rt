@@ -4,6 +4,7 @@
 mod children;
 mod costs;
 mod frontier;
+mod groups;
 mod layers;
 mod masks;
 mod search;

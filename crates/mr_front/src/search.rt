@@ -8,6 +8,7 @@ ghost use Rattle.mr_front.specs.Children.{children};
 use crate::children::expand;
 use crate::costs::cost_of;
 use crate::frontier::Frontier;
+use crate::groups::{add_groups, group, new_groups};
 use crate::layers::Layer;
 use mr_bits::{Mask, NoMemory};
 use mr_eq::{Equations, Found, Problem};
@@ -85,7 +86,7 @@ fn work_with(work: u32, masks: usize, width: u32, budget: u32) -> Option<u32>
 
 /// Lets the children of the masks of a layer wait at the next level, except those that cost more than `bound`.
 ///
-/// The children of each mask are put in the order of their cost, so that the frontier takes those of one cost together.
+/// The children of each mask are put into groups by their cost, so that the frontier takes those of one cost together.
 fn expand_layer(
     alloc: Global,
     equations: &Equations,
@@ -98,11 +99,12 @@ fn expand_layer(
         (children equations.now layer.now.level bound layer.now.masks)) }
 {
     let mut united = Vec::new(alloc);
+    let mut groups = new_groups(alloc)?;
     for place in 0..layer.masks.len() {
         united.clear();
         expand(equations, layer, place, place + 1, bound, &mut united)?;
-        united.sort_unstable_by_key(|mask| cost_of(*mask));
-        frontier.add(layer.level + 1, &united)?;
+        group(&united, &mut groups)?;
+        add_groups(&mut groups, layer.level + 1, frontier)?;
     }
     Ok(())
 }

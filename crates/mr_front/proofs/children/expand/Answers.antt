@@ -1,4 +1,4 @@
-use Rattle.std.proofs.Common.{◌≡◌, ℕ, ◌+◌, ◌∙◌, suc, get_or, refl, add-one, arith}
+use Rattle.std.proofs.Common.{◌+◌, add-one, arith}
 use Rattle.std.specs.Prelude.{slice_range}
 use Rattle.mr_front.specs.Children.{children_of, children, AppendsPrefix}
 use Rattle.mr_front.proofs.AppendLaws.{on_err_from}

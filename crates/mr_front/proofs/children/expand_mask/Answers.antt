@@ -1,4 +1,4 @@
-use Rattle.std.proofs.Common.{◌≡◌, ◌≤◌, ◌∙◌, length, arith}
+use Rattle.std.proofs.Common.{◌≤◌, ◌∙◌, length, arith}
 use Rattle.mr_eq.specs.Equations.{equations_at}
 use Rattle.mr_eq.proofs.EquationLists.{equations-length}
 use Rattle.mr_front.specs.Children.{children_of, AppendsPrefix}

@@ -1,5 +1,4 @@
-use Rattle.std.proofs.Common.{List, length, ◌-◌, ◌≡◌, ◌<◌, ◌≤◌, slice_index, slice_range, ℕ, ◌+◌, ◌*◌}
-use Rattle.std.specs.List.{All}
+use Rattle.std.proofs.Common.{List, length, ◌-◌, ◌≡◌, ◌<◌, ◌≤◌, slice_index, ℕ}
 use Rattle.mr_front.specs.Waiting.{mask_cost}
 use Rattle.mr_front.proofs.costs.run_end.Given as goal
 

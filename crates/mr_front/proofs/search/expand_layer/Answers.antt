@@ -1,10 +1,10 @@
-use Rattle.std.proofs.Common.{◌≡◌, ◌+◌, ◌++◌, ◌≤◌, ◌∙◌, List, length, take, ap, subst, add-one, arith}
+use Rattle.std.proofs.Common.{◌≡◌, ◌+◌, ◌++◌, ◌∙◌, List, take, ap, subst, add-one, arith}
 use Rattle.std.proofs.lemmas.List.{take_all}
 use Rattle.std.specs.Prelude.{slice_range}
-use Rattle.mr_model.specs.Members.{members}
 use Rattle.mr_front.specs.Frontiers.{WaitsToo}
 use Rattle.mr_front.specs.Children.{children}
-use Rattle.mr_front.proofs.UnionLaws.{members-few, too-moved, too-run}
+use Rattle.mr_front.proofs.UnionLaws.{members-few, too-run}
+use Rattle.mr_front.proofs.GroupLaws.{groups-too}
 use Rattle.mr_front.proofs.search.expand_layer.Goals as goal
 
 pub overflow_add-layer : goal.overflow_add-layer
@@ -16,10 +16,12 @@ loop-place-preserved c =
     let l = c.args.layer.now in
     let place = c.loop-place.place in
     record {
-      added = too-run c.args.frontier.now c.loop-place.frontier c.add.new.self p l.level c.args.bound l.masks c.expand.new.out.items place (place + 1) (add-one place) c.loop-place.invariant.added
-          (c.in_ok-expand.ensures.all ∙ ap (λ (vs : List _). vs ++ children p l.level c.args.bound (slice_range l.masks place (place + 1))) c.clear.ensures.items)
-          (too-moved c.loop-place.frontier c.add.new.self (l.level + 1) c.expand.new.out.items c.sort_unstable_by_key.new.self.items c.sort_unstable_by_key.ensures.permutation
-          (subst (λ (vs : List _). WaitsToo c.loop-place.frontier c.add.new.self (l.level + 1) vs) c.deref.ensures.value c.in_ok-add.ensures.added));
+      added = too-run c.args.frontier.now c.loop-place.frontier c.add_groups.new.frontier p l.level c.args.bound l.masks c.deref.result.now place (place + 1) (add-one place) c.loop-place.invariant.added
+          (c.deref.ensures.value ∙ c.in_ok-expand.ensures.all ∙ ap (λ (vs : List _). vs ++ children p l.level c.args.bound (slice_range l.masks place (place + 1))) c.clear.ensures.items)
+          (groups-too c.loop-place.frontier c.add_groups.new.frontier (l.level + 1) c.loop-place.groups.items c.group.new.groups.items c.deref.result.now c.loop-place.invariant.none
+          c.in_ok-group.ensures.grouped c.in_ok-add_groups.ensures.added);
+      none = c.in_ok-add_groups.ensures.none;
+      room = c.in_ok-add_groups.ensures.room ∙ c.in_ok-group.ensures.room;
     }
 
 pub returns : goal.returns

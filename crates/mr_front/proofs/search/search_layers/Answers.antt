@@ -1,6 +1,5 @@
-use Rattle.std.proofs.Common.{◌≡◌, ◌<◌, ◌≤◌, ◌+◌, ◌∙◌, length, ap, sym, subst, arith}
+use Rattle.std.proofs.Common.{◌+◌, ◌∙◌, ap, subst, arith}
 use Rattle.std.specs.Prelude.{count_ones}
-use Rattle.mr_model.specs.Members.{members}
 use Rattle.mr_eq.specs.Problems.{Loss, IsLoss, search_for}
 use Rattle.mr_eq.specs.Equations.{width_of}
 use Rattle.mr_front.specs.Frontiers.{Waits, WaitsToo}

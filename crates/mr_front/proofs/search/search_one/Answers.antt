@@ -1,4 +1,4 @@
-use Rattle.std.proofs.Common.{◌≡◌, ◌^◌, ◌<◌, ◌∙◌, length, sym, arith}
+use Rattle.std.proofs.Common.{◌^◌, ◌<◌, length, arith}
 use Rattle.std.specs.Prelude.{count_ones}
 use Rattle.mr_model.specs.Members.{members}
 use Rattle.mr_model.specs.Code.{dropped}

@@ -1,4 +1,4 @@
-use Rattle.std.proofs.Common.{◌≡◌, ℕ, refl}
+use Rattle.std.proofs.Common.{ℕ, refl}
 use Rattle.mr_front.specs.Frontiers.{Waits}
 use Rattle.mr_front.proofs.FrontierLaws.{if_none_from, first-nothing, first-layer, first-rest}
 use Rattle.mr_front.proofs.frontier.Frontier.take_layer.Goals as goal

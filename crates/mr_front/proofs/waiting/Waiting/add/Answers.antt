@@ -1,7 +1,7 @@
-use Rattle.std.proofs.Common.{◌≡◌, ℕ, ◌≤◌, List, length, take, sym, subst, arith}
+use Rattle.std.proofs.Common.{ℕ, List, take, sym, subst, arith}
 use Rattle.std.specs.Prelude.{slice_range}
 use Rattle.std.proofs.lemmas.List.{take_all}
-use Rattle.mr_front.specs.Waiting.{masks_at, HasAdded}
+use Rattle.mr_front.specs.Waiting.{HasAdded}
 use Rattle.mr_front.proofs.AddLaws.{added-trans, added-ends, same-ends, taken-back, take-run}
 use Rattle.mr_front.proofs.waiting.Waiting.add.Goals as goal
 

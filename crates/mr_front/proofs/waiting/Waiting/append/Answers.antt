@@ -1,7 +1,6 @@
-use Rattle.std.proofs.Common.{◌≡◌, ◌∙◌, ◌++◌, List, length, get_or, Some, [], ap, sym, is_some}
-use Rattle.std.specs.List.{All}
+use Rattle.std.proofs.Common.{◌∙◌, ◌++◌, List, ap, sym, is_some}
 use Rattle.std.specs.Result.{is_ok}
-use Rattle.mr_front.specs.Waiting.{mask_cost, masks_at, key_cmp, HasAdded, HasSame, IsTidy}
+use Rattle.mr_front.specs.Waiting.{HasSame}
 use Rattle.mr_front.proofs.AppendLaws.{same-cost, extended-tidy, extended-added, extended-same, on_err_from, new-tidy, new-added}
 use Rattle.mr_front.proofs.waiting.Waiting.append.Goals as goal
 

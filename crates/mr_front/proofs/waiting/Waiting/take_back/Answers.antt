@@ -1,5 +1,5 @@
-use Rattle.std.proofs.Common.{◌≡◌, ℕ, suc, ◌-◌, ◌≤◌, length, drop, subst, arith}
-use Rattle.mr_front.specs.Waiting.{masks_at, HasAdded}
+use Rattle.std.proofs.Common.{◌≡◌, ℕ, suc, ◌-◌, drop, subst, arith}
+use Rattle.mr_front.specs.Waiting.{HasAdded}
 use Rattle.mr_front.proofs.AddLaws.{ends-before}
 use Rattle.mr_front.proofs.waiting.Waiting.take_back.Goals as goal
 

@@ -1,5 +1,3 @@
-use Rattle.std.proofs.Common.{◌≡◌}
-use Rattle.mr_front.specs.Waiting.{masks_at, key_cmp, IsTidy, IsFirstList}
 use Rattle.mr_front.proofs.FirstLaws.{first-tidy, first-list}
 use Rattle.mr_front.proofs.waiting.Waiting.take_first.Goals as goal
 

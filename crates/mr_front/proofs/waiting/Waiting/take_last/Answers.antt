@@ -1,5 +1,4 @@
-use Rattle.std.proofs.Common.{◌≡◌, ◌<◌, ◌-◌, length, get_or, ap, sym, is_some, arith}
-use Rattle.mr_front.specs.Waiting.{mask_cost, masks_at, key_cmp, HasAdded, IsTidy}
+use Rattle.std.proofs.Common.{◌<◌, ◌-◌, get_or, ap, sym, is_some, arith}
 use Rattle.mr_front.proofs.AppendLaws.{ends-some, shorter-tidy, shorter-added, emptied-tidy, emptied-added, empty-items, some-items}
 use Rattle.mr_front.proofs.waiting.Waiting.take_last.Goals as goal
 
