@@ -1,4 +1,5 @@
-//! The texts of matrices, with the exact place of the first fault, and the makers of two published codes.
+//! The texts of matrices, with the exact place of the first fault, and the makers of two published codes; and by its
+//! public names the head of an image file, which stands with its definitions in the crate below.
 #![tactic(auto)]
 
 mod faults;
@@ -11,5 +12,6 @@ mod rows;
 
 pub use faults::{LineKind, MatrixFault};
 pub use makers::{evenodd, rdp};
+pub use mr_image::{HeadFault, ImageHead, ImageKind};
 pub use printing::print_matrix;
 pub use reading::read_matrix;

@@ -59,6 +59,10 @@ image_body l image = flat_map (λ s. flat_map (image s) (range_with_len 0 (strip
 
 -- ---- what is made of an image
 
+-- the same code, or the same recipes, for every stripe
+abbrev pub every_stripe : {X : Type 0} → X → ℕ → X
+every_stripe x s = x
+
 -- the XOR of the symbols at the members of x, at each place of `size` bytes: of none it is zero bytes
 unfoldable pub xor_symbols : ℕ → List (List ℕ) → ℕ → List ℕ
 xor_symbols size symbols x = map (λ place. sum (map (λ bytes. slice_index bytes place) symbols) x) (range_with_len 0 size)
