@@ -154,8 +154,8 @@ impl ImageHead {
         HEAD + before * u64::from(self.bytes)
     }
 
-    /// The bytes of a file with this head.
-    fn file_bytes(&self) -> u64
+    /// How many bytes a file with this head has.
+    pub fn file_bytes(&self) -> u64
         ensures { result ≡ file_bytes self.now }
     {
         HEAD + u64::from(self.stripes) * u64::from(self.symbols()) * u64::from(self.bytes)

@@ -1,13 +1,16 @@
 -- Words, and what they ask.
-use Rattle.std.proofs.Common.{◌≡◌, ℕ, [], ◌∷◌, Option, Some, None, codes, refl}
+use Rattle.std.proofs.Common.{◌≡◌, ℕ, List, [], ◌∷◌, Option, Some, None, codes, refl}
 use Rattle.std.specs.Str.{chars}
 use Rattle.mr_text.specs.Numbers.{is_number, number_of}
+use Rattle.mr_words.specs.Encode.{encode_of}
 use Rattle.mr_words.specs.Grammar.{read_from}
 use Rattle.mr_words.specs.Lost.{is_lost_word, lost_numbers}
 use Rattle.mr_words.specs.Make.{make_of}
 use Rattle.mr_words.specs.Plan.{plan_of}
+use Rattle.mr_words.specs.Rebuild.{rebuild_of}
 use Rattle.mr_words.specs.declared.code.Code.TheVariants.{Rdp}
 use Rattle.mr_words.specs.declared.plan_words.PlanWords.{PlanWords}
+use Rattle.mr_words.specs.declared.rebuild_words.RebuildWords.{RebuildWords}
 
 abbrev row : ℕ → Option PlanWords
 row budget = Some (record { matrix = codes "r3"; lost = codes "0"; workers = 4; budget = budget })
@@ -87,3 +90,40 @@ rdp = refl
 evenodd : make_of (codes "evenodd" ∷ codes "11" ∷ []) ≡ None
 unfolding read_from number_of is_number
 evenodd = refl
+
+-- an image to be made: its numbers have no leading zero and at most nine digits
+encode : encode_of (codes "r3" ∷ codes "data" ∷ codes "2" ∷ codes "999999999" ∷ []) ≡ Some (record { matrix = codes "r3"; payload = codes "data"; stripes = 2; bytes = 999999999 })
+unfolding read_from number_of is_number chars
+encode = refl
+
+stripes_leading_zero : encode_of (codes "r3" ∷ codes "data" ∷ codes "01" ∷ codes "8" ∷ []) ≡ None
+unfolding read_from number_of is_number chars
+stripes_leading_zero = refl
+
+bytes_ten_digits : encode_of (codes "r3" ∷ codes "data" ∷ codes "2" ∷ codes "1000000000" ∷ []) ≡ None
+unfolding read_from number_of is_number chars
+bytes_ten_digits = refl
+
+-- an image to be rebuilt, by a plan that is found, and by a given one, whose name may be `-` but not empty
+abbrev rebuild_row : Option (List ℕ) → Option RebuildWords
+rebuild_row plan = Some (record { matrix = codes "r3"; image = codes "im"; lost = codes "0"; workers = 4; budget = 4194304; plan = plan })
+
+no_plan : rebuild_of (codes "r3" ∷ codes "im" ∷ codes "0" ∷ []) ≡ rebuild_row None
+unfolding read_from is_lost_word number_of is_number chars
+no_plan = refl
+
+plan_between : rebuild_of (codes "r3" ∷ codes "--plan=p=1" ∷ codes "im" ∷ codes "0" ∷ []) ≡ rebuild_row (Some (codes "p=1"))
+unfolding read_from is_lost_word number_of is_number chars
+plan_between = refl
+
+plan_dash : rebuild_of (codes "r3" ∷ codes "im" ∷ codes "0" ∷ codes "--plan" ∷ codes "-" ∷ []) ≡ rebuild_row (Some (codes "-"))
+unfolding read_from is_lost_word number_of is_number chars
+plan_dash = refl
+
+plan_empty : rebuild_of (codes "r3" ∷ codes "im" ∷ codes "0" ∷ codes "--plan=" ∷ []) ≡ None
+unfolding read_from is_lost_word number_of is_number chars
+plan_empty = refl
+
+live : rebuild_of (codes "r3" ∷ codes "im" ∷ codes "0" ∷ codes "--live" ∷ []) ≡ None
+unfolding read_from is_lost_word number_of is_number chars
+live = refl

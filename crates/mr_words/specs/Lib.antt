@@ -6,3 +6,5 @@ pub mod Plan
 pub mod Check
 pub mod Reads
 pub mod Texts
+pub mod Encode
+pub mod Rebuild

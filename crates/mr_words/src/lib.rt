@@ -2,22 +2,27 @@
 //!
 //! A command is a syntax (its places, its options with a value and its flags), the command of `clap` that
 //! `command_for` makes of the same names, and a reader of the values that the matches of `parse` have. The
-//! functions of `values` read one value each. `read_plan` and `read_make` are two commands, read so.
+//! functions of `values` read one value each. `read_plan`, `read_check`, `read_make`, `read_encode` and
+//! `read_rebuild` are five commands, read so.
 #![tactic(auto)]
 
 mod check_words;
 mod code;
 mod command;
+mod encode_words;
 mod errors;
 mod lost;
 mod make_words;
 mod plan_words;
+mod rebuild_words;
 pub mod values;
 
 pub use check_words::{CheckWords, read_check};
 pub use code::Code;
 pub use command::{command_for, flag, parse, place, valued};
+pub use encode_words::{EncodeWords, read_encode};
 pub use errors::WordsError;
 pub use lost::{is_lost, lost_devices};
 pub use make_words::{MakeWords, read_make};
 pub use plan_words::{PlanWords, read_plan};
+pub use rebuild_words::{RebuildWords, read_rebuild};
