@@ -1,5 +1,6 @@
 -- The laws of the outside.
 pub mod Taking
 pub mod Fronts
+pub mod Consuming
 pub mod Texts
 mod Lookups

@@ -8,3 +8,6 @@ pub mod SinkStates
 pub mod EyeStates
 pub mod FilesStates
 pub mod DiskStates
+pub mod SourceStates
+pub mod Reading
+pub mod SureStates

@@ -110,8 +110,8 @@ impl MemFiles {
     }
 }
 
-// The files with bytes that eyes can share.
-fn shared(alloc: Global, files: Vec<(Text, Vec<u8>)>) -> Result<Vec<MemFile>, NoMemory>
+/// The files with bytes that eyes can share.
+pub(crate) fn shared(alloc: Global, files: Vec<(Text, Vec<u8>)>) -> Result<Vec<MemFile>, NoMemory>
     ensures { IfOk result (λ made. map entry_of made.items ≡ map (λ file. (file.0, file.1.items)) files.items) }
 {
     let mut made = Vec::new(alloc);
@@ -122,8 +122,8 @@ fn shared(alloc: Global, files: Vec<(Text, Vec<u8>)>) -> Result<Vec<MemFile>, No
     Ok(made)
 }
 
-// The bytes of the first file of this name.
-fn bytes_of<'a>(files: &'a [MemFile], name: &str) -> Option<&'a Arc<Vec<u8>>>
+/// The bytes of the first file of this name.
+pub(crate) fn bytes_of<'a>(files: &'a [MemFile], name: &str) -> Option<&'a Arc<Vec<u8>>>
     ensures { MatchOption result (file_of (map entry_of files.now) (chars name.now) ≡ None)
         (λ bytes. file_of (map entry_of files.now) (chars name.now) ≡ Some (arc_value bytes.now).items) }
 {
@@ -135,8 +135,13 @@ fn bytes_of<'a>(files: &'a [MemFile], name: &str) -> Option<&'a Arc<Vec<u8>>>
     None
 }
 
-// Writes down an `eye` call.
-fn ask(asked: &mut Vec<Asked>, alloc: Global, name: &str, duty: Duty) -> Result<(), FilesError>
+/// Writes down an `eye` call.
+pub(crate) fn ask(
+    asked: &mut Vec<Asked>,
+    alloc: Global,
+    name: &str,
+    duty: Duty,
+) -> Result<(), FilesError>
     ensures ok { OnOk result (asked.new.items ≡ asked.old.items ++ record { name = chars name.now; duty = duty } ∷ []) }
     ensures len { OnOk result (vec_len asked.new ≡ vec_len asked.old + 1) }
     ensures err { OnErr result (asked.new.items ≡ asked.old.items) }

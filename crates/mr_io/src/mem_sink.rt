@@ -99,8 +99,8 @@ fn count_taken(calls: u64, takes: &[usize], fails: &[u64], room: usize, count: u
     count.min(room.min(most))
 }
 
-// Appends bytes for which there is room.
-fn append_within(kept: &mut Vec<u8>, bytes: &[u8])
+/// Appends bytes for which there is room.
+pub(crate) fn append_within(kept: &mut Vec<u8>, bytes: &[u8])
     requires { vec_len kept.old + length bytes.now ≤ vec_capacity kept.old }
     ensures items { kept.new.items ≡ kept.old.items ++ bytes.now }
     ensures len { vec_len kept.new ≡ vec_len kept.old + length bytes.now }
