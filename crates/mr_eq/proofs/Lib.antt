@@ -5,3 +5,4 @@ pub mod EquationLists
 pub mod LeastLaws
 pub mod WorkOf
 pub mod LossLaws
+mod SingleLaws

@@ -5,7 +5,9 @@ mod equations;
 mod found;
 pub mod laws;
 mod problems;
+mod singles;
 
 pub use equations::Equations;
 pub use found::Found;
 pub use problems::{Problem, Undetermined};
+pub use singles::Singles;
