@@ -1,0 +1,72 @@
+-- The symbols in a run of bytes, and their XOR as a loop over the columns of a row makes it.
+use Rattle.std.proofs.Common.{◌≡◌, ℕ, suc, ◌+◌, ◌-◌, ◌*◌, ◌^◌, ◌<◌, ◌≤◌, List, [], take, drop, length, get_or, bit_xor, refl, sym, ap, subst, ◌∙◌, arith, zero-add, length-take, length-drop}
+use Rattle.std.specs.Simd.Lanes.{zip2}
+use Rattle.std.proofs.Math.Nat.{suc-mul, add-mul, mul_assoc, mul-le-mul_right}
+use Rattle.std.proofs.lemmas.List.{drop-drop, drop-take, take-take}
+use Rattle.std.proofs.lemmas.List.Elements.{All-get_or}
+use Rattle.std.proofs.lemmas.List.FromFn.{get_or-map-range_with_len}
+use Rattle.mr_model.specs.Sets.{below}
+use Rattle.mr_model.specs.Code.{Code, row}
+use Rattle.mr_model.proofs.SetLaws.{member-below}
+use Rattle.mr_model.proofs.Lists.{map-range-same}
+use Rattle.mr_model.proofs.Loops.{IsTurn}
+use Rattle.mr_bits.specs.Matrices.{IsMatrixCode}
+use Rattle.mr_image.specs.Images.{Layout, xor_symbols}
+use Rattle.mr_image.proofs.XorLaws.{xor_symbols-turn}
+use Rattle.mr_encode.specs.Data.{symbols_in, columns_of}
+
+-- place c of k places of `size` bytes ends within them
+pub place_end : (size k len c : ℕ) → len ≡ k * size → c < k → c * size + size ≤ len
+place_end size k len c long low =
+    let next : suc c ≤ k = omega arith in
+    omega (arith, suc-mul c size, mul-le-mul_right size next)
+
+-- a row has columns of the code alone
+pub row_columns : (m : Code) (i : ℕ) → IsMatrixCode m → i < length m.rows → row m i < 2 ^ m.columns
+row_columns m i h low = All-get_or (λ r. r < 2 ^ m.columns) m.rows i 0 low h.columns
+
+-- the symbols of data, one for each column of a matrix
+module _ (m : Code) (size : ℕ) (columns : List ℕ) (matrix : IsMatrixCode m) (long : length columns ≡ m.columns * size) where
+  symbols_in-at : (c : ℕ) → c < m.columns → get_or (symbols_in size m.columns columns) c [] ≡ take size (drop (c * size) columns)
+  symbols_in-at c low = get_or-map-range_with_len (λ d. take size (drop (d * size) columns)) 0 m.columns c c [] low (zero-add c)
+
+  symbols_in-size : (c : ℕ) → c < m.columns → length (take size (drop (c * size) columns)) ≡ size
+  symbols_in-size c low = omega (arith, length-take size (drop (c * size) columns), length-drop (c * size) columns, place_end size m.columns (length columns) c long low)
+
+  -- a turn of a loop over the columns of row i
+  module _ (i : ℕ) (here : i < length m.rows) (n t rest : ℕ) (turn : IsTurn (row m i) n t rest) where
+    turn-low : t < m.columns
+    turn-low = member-below m.columns (row m i) t (row_columns m i matrix here) turn.member
+
+    pub turn-end : (at : ℕ) → at ≡ t → at * size + size ≤ length columns
+    turn-end at e = subst (λ d. d * size + size ≤ length columns) (sym e) (place_end size m.columns (length columns) t long turn-low)
+
+    -- one column more
+    pub turn-xor : (at width : ℕ) (now after : List ℕ) → at ≡ t → width ≡ size
+        → now ≡ xor_symbols size (symbols_in size m.columns columns) (below n (row m i)) → after ≡ zip2 bit_xor now (take width (drop (at * size) columns))
+        → after ≡ xor_symbols size (symbols_in size m.columns columns) (below (t + 1) (row m i))
+    turn-xor at width now after e w before made =
+        let symbol : get_or (symbols_in size m.columns columns) t [] ≡ take size (drop (t * size) columns) = symbols_in-at t turn-low in
+        made
+        ∙ (λ j. zip2 bit_xor (before j) (take (w j) (drop (e j * size) columns)))
+        ∙ ap (zip2 bit_xor (xor_symbols size (symbols_in size m.columns columns) (below n (row m i)))) (sym symbol)
+        ∙ sym (xor_symbols-turn size (symbols_in size m.columns columns) (row m i) n t rest turn (ap length symbol ∙ symbols_in-size t turn-low))
+
+-- the symbols of data of stripe s are those in its part of the data file
+pub columns_of-in : (l : Layout) (k : ℕ) (bytes : List ℕ) (s : ℕ)
+    → columns_of l k bytes s ≡ symbols_in l.symbol_bytes k (take (k * l.symbol_bytes) (drop (s * (k * l.symbol_bytes)) bytes))
+columns_of-in l k bytes s =
+    let size : ℕ = l.symbol_bytes in
+    let from : List ℕ = drop (s * (k * size)) bytes in
+    map-range-same (λ c. take size (drop ((s * k + c) * size) bytes)) (λ c. take size (drop (c * size) (take (k * size) from))) k 0 0 (λ i low.
+    let c : ℕ = 0 + i in
+    let fits : c * size + size ≤ k * size = place_end size k (k * size) c refl (omega (arith, low)) in
+    let left : ℕ = k * size - c * size in
+    let whole : k * size ≡ c * size + left = omega arith in
+    let enough : size ≤ left = omega arith in
+    let at : (s * k + c) * size ≡ s * (k * size) + c * size = omega (arith, add-mul (s * k) c size, mul_assoc s k size) in
+    ap (λ n. take size (drop n bytes)) at
+    ∙ ap (take size) (sym (drop-drop (c * size) (s * (k * size)) bytes))
+    ∙ sym (take-take size left (drop (c * size) from) enough)
+    ∙ ap (take size) (sym (drop-take (c * size) left from))
+    ∙ ap (λ n. take size (drop (c * size) (take n from))) (sym whole))

@@ -1,0 +1,4 @@
+pub mod ColumnLaws
+pub mod FrontLaws
+pub mod StripeLaws
+pub mod BodyLaws
