@@ -1,0 +1,8 @@
+use Rattle.std.proofs.Common.{ℕ}
+use Rattle.mr_mend.proofs.Progress.{IsProgress}
+use Rattle.mr_mend.proofs.stripes.mend_stripe.Given as goal
+
+-- all members of the set below n are done
+abbrev pub invariant-loop-symbol : goal.invariant-loop-symbol
+invariant-loop-symbol g l = (goal.iterator-loop-symbol g).can_next l.symbol-iterator × (goal.iterator-loop-symbol g).is_finite l.symbol-iterator
+    × ((n : ℕ) × IsProgress l.fn.head l.fn.plan l.fn.stripe n l.symbol-iterator (g.E.Eye.sight l.initial.eye) (g.E.Eye.sight l.eye) (g.E.Eye.faults l.initial.eye) (g.E.Eye.faults l.eye) l.lost)

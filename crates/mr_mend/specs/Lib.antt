@@ -1,0 +1,4 @@
+pub mod Mending
+pub mod Scripts
+pub mod Replies
+pub mod Serving

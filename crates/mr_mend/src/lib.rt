@@ -1,0 +1,24 @@
+//! The rebuild of an image: what the recipes of a plan make of each stripe, and the whole file of it. The reads of a
+//! script, the degraded read of one lost symbol, and the lines of the replies.
+#![tactic(auto)]
+
+mod asks;
+mod copies;
+mod degraded;
+mod images;
+pub mod laws;
+mod rebuilding;
+mod replies;
+mod scripts;
+mod serving;
+mod stripes;
+
+pub use asks::{Ask, ScriptFault};
+pub use copies::copy_survivors;
+pub use degraded::near;
+pub use images::mend_all;
+pub use rebuilding::{Rebuilt, Room, rebuild};
+pub use replies::{print_replies, print_reply};
+pub use scripts::read_script;
+pub use serving::serve_asks;
+pub use stripes::mend_stripe;

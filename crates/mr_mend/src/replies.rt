@@ -1,0 +1,99 @@
+//! The lines of replies: one for each read.
+
+ghost use Rattle.std.specs.Prelude.{◌≡◌, ◌+◌, ◌*◌, ◌≤◌, ◌++◌, decimal, length, take};
+ghost use Rattle.arrayvec.specs.ArrayVec.{array_vec_len};
+ghost use Rattle.mr_io.specs.Counts.{HasCause};
+ghost use Rattle.mr_io.specs.Taking.{Puts};
+ghost use Rattle.mr_mend.specs.Replies.{buffer_lines, reply_front, reply_line};
+
+use crate::asks::Ask;
+use arrayvec::ArrayVec;
+use itoa::Buffer;
+use mr_image::ImageHead;
+use mr_io::{Failed, Sink, put_all};
+
+/// Room for the front of a line: `reply `, a number of up to ten digits, a space, one of up to three, and a space.
+const ROOM: usize = 31;
+
+/// Puts the line of each reply. The replies stand one after another in `replies`, in the order of the asks, each of the
+/// bytes of one symbol.
+///
+/// `line` has two bytes for each byte of a symbol, and 32 more. It takes no memory. After `Failed` the sink took a front
+/// of the lines that is not all.
+pub fn print_replies<K: Sink>(
+    out: &mut K,
+    asks: &[Ask],
+    replies: &[u8],
+    head: &ImageHead,
+    line: &mut [u8],
+) -> Result<(), Failed>
+    requires replies { length replies.now ≡ length asks.now * head.now.symbol_bytes }
+    requires line { 2 * head.now.symbol_bytes + 32 ≤ length line.old }
+    ensures puts { Puts (K.held out.old) (K.held out.new) result (buffer_lines head.now.symbol_bytes asks.now replies.now) }
+    ensures cause { HasCause (K.faults out.old) (K.faults out.new) result }
+{
+    let size = head.bytes() as usize;
+    for (k, ask) in asks.iter().enumerate() {
+        let at = k * size;
+        print_reply(out, *ask, &replies[at..at + size], line)?;
+    }
+    Ok(())
+}
+
+/// Puts the line of one reply: `reply `, the stripe, the symbol, and the bytes of the symbol as two lower-case hexadecimal
+/// digits each.
+///
+/// `line` has two bytes for each byte of the symbol, and 32 more. It takes no memory, and puts the line at once. After
+/// `Failed` the sink took a front of the line that is not all.
+pub fn print_reply<K: Sink>(
+    out: &mut K,
+    ask: Ask,
+    symbol: &[u8],
+    line: &mut [u8],
+) -> Result<(), Failed>
+    requires { 2 * length symbol.now + 32 ≤ length line.old }
+    ensures puts { Puts (K.held out.old) (K.held out.new) result (reply_line ask symbol.now) }
+    ensures cause { HasCause (K.faults out.old) (K.faults out.new) result }
+{
+    let end = write_line(ask, symbol, line);
+    put_all(out, &line[..end])
+}
+
+/// Makes the front of `line` that line, and says where it ends.
+fn write_line(ask: Ask, symbol: &[u8], line: &mut [u8]) -> usize
+    requires { 2 * length symbol.now + 32 ≤ length line.old }
+    ensures line { take result line.new ≡ reply_line ask symbol.now }
+    ensures within { result ≤ length line.new }
+{
+    let front = front_of(ask);
+    let at = front.len();
+    let end = at + 2 * symbol.len();
+    line[..at].copy_from_slice(&front);
+    let _ = hex::encode_to_slice(symbol, &mut line[at..end]);
+    line[end] = b'\n';
+    end + 1
+}
+
+/// The front of a line.
+#[tactic(auto, unfolding(crate::specs::Replies::reply_front))]
+fn front_of(ask: Ask) -> ArrayVec<u8, ROOM>
+    ensures { result.items ≡ reply_front ask }
+{
+    let mut digits = Buffer::new();
+    let mut front = ArrayVec::new();
+    append(&mut front, b"reply ");
+    append(&mut front, digits.format(ask.stripe).as_bytes());
+    append(&mut front, b" ");
+    append(&mut front, digits.format(ask.symbol).as_bytes());
+    append(&mut front, b" ");
+    front
+}
+
+/// Appends bytes that fit.
+fn append(front: &mut ArrayVec<u8, ROOM>, bytes: &[u8])
+    requires { array_vec_len front.old + length bytes.now ≤ ROOM }
+    ensures items { front.new.items ≡ front.old.items ++ bytes.now }
+    ensures len { array_vec_len front.new ≡ array_vec_len front.old + length bytes.now }
+{
+    let _ = front.try_extend_from_slice(bytes);
+}

@@ -1,0 +1,74 @@
+ghost use Rattle.std.specs.Prelude.{◌≡◌, ◌*◌, [], ◌∷◌, length, All, IfSome, OnOk};
+ghost use Rattle.mr_io.specs.Counts.{HasCause};
+ghost use Rattle.mr_io.specs.Sights.{sight_with};
+ghost use Rattle.mr_image.specs.Images.{every_stripe, image_of, mended};
+ghost use Rattle.mr_image.specs.Heads.{file_bytes};
+ghost use Rattle.mr_mend.specs.Mending.{HasImage, HoldsMended, IsSameFile};
+ghost use Rattle.mr_mend.specs.Scripts.{IsInRange};
+ghost use Rattle.mr_mend.specs.Serving.{live_reads, reply_bytes};
+
+use crate::asks::Ask;
+use crate::copies::is_rebuilt;
+use mr_image::ImageHead;
+use mr_io::{Eye, Failed};
+use mr_plan::Plan;
+
+/// Fills `replies` with the bytes of each ask's symbol of the mended image, one after another, in the order of the asks.
+///
+/// A symbol that has a recipe is taken from `image`, which has the bytes of the whole file and each of these symbols
+/// rebuilt at its place. Any other is read by the eye, once for each ask. `replies` has the bytes of one symbol for each
+/// ask. It takes no memory. A read that fails is answered at once, and `replies` is then of no use.
+pub fn serve_asks<E: Eye>(
+    eye: &mut E,
+    head: &ImageHead,
+    plan: &Plan,
+    asks: &[Ask],
+    image: &[u8],
+    replies: &mut [u8],
+) -> Result<(), Failed>
+    requires eye { HasImage head.now (E.sight eye.old) }
+    requires asks { All (IsInRange head.now) asks.now }
+    requires image { length image.now ≡ file_bytes head.now }
+    requires replies { length replies.old ≡ length asks.now * head.now.symbol_bytes }
+    ensures served { OnOk result (IfSome (E.sight eye.old).bytes (λ bytes. HoldsMended head.now plan.now.recipes (image_of head.now bytes) image.now
+        → replies.new ≡ reply_bytes (mended head.now (every_stripe plan.now.recipes) (image_of head.now bytes)) asks.now)) }
+    ensures taken { OnOk result (E.sight eye.new ≡ sight_with (E.sight eye.old) (live_reads head.now plan.now.recipes asks.now)) }
+    ensures file { IsSameFile (E.sight eye.old) (E.sight eye.new) }
+    ensures cause { HasCause (E.faults eye.old) (E.faults eye.new) result }
+{
+    let size = head.bytes() as usize;
+    for (k, ask) in asks.iter().enumerate() {
+        let at = k * size;
+        let reply = &mut replies[at..at + size];
+        serve_ask(eye, head, plan, *ask, image, reply)?;
+    }
+    Ok(())
+}
+
+/// Makes `reply`, which has the bytes of one symbol, the symbol of the mended image that is asked for.
+fn serve_ask<E: Eye>(
+    eye: &mut E,
+    head: &ImageHead,
+    plan: &Plan,
+    ask: Ask,
+    image: &[u8],
+    reply: &mut [u8],
+) -> Result<(), Failed>
+    requires eye { HasImage head.now (E.sight eye.old) }
+    requires ask { IsInRange head.now ask }
+    requires image { length image.now ≡ file_bytes head.now }
+    requires reply { length reply.old ≡ head.now.symbol_bytes }
+    ensures served { OnOk result (IfSome (E.sight eye.old).bytes (λ bytes. HoldsMended head.now plan.now.recipes (image_of head.now bytes) image.now
+        → reply.new ≡ mended head.now (every_stripe plan.now.recipes) (image_of head.now bytes) ask.stripe ask.symbol)) }
+    ensures taken { OnOk result (E.sight eye.new ≡ sight_with (E.sight eye.old) (live_reads head.now plan.now.recipes (ask ∷ []))) }
+    ensures file { IsSameFile (E.sight eye.old) (E.sight eye.new) }
+    ensures cause { HasCause (E.faults eye.old) (E.faults eye.new) result }
+{
+    let place = head.place(ask.stripe, ask.symbol);
+    if !is_rebuilt(plan.recipes(), ask.symbol) {
+        return eye.read_at(place, reply);
+    }
+    let at = place as usize;
+    reply.copy_from_slice(&image[at..at + reply.len()]);
+    Ok(())
+}
