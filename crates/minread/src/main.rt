@@ -4,7 +4,8 @@
 //! that of `mr_top::run`.
 #![tactic(auto)]
 
-use mr_io::{DiskFiles, StdSink};
+use mr_io::{DiskFiles, StdSink, StdSource};
+use mr_kern::{XorKernel, block_plain};
 use mr_top::{Fault, run};
 use std::alloc::{AllocError, Global};
 use std::env;
@@ -16,8 +17,18 @@ fn main(rt: HostRuntime) -> ExitCode {
     let mut report = StdSink::new(rt.stderr());
     let status = match words(rt.alloc(), env::args(&rt)) {
         Ok(words) => {
+            let mut script = StdSource::new(rt.stdin());
             let mut files = DiskFiles::new(rt);
-            run(rt.alloc(), &words, &mut files, &mut out, &mut report)
+            let kernel = XorKernel::new(block_plain);
+            run(
+                rt.alloc(),
+                &words,
+                &mut files,
+                &mut script,
+                &mut out,
+                &mut report,
+                &kernel,
+            )
         }
         Err(fault) => {
             let _ = fault.print(&mut report);

@@ -1,5 +1,5 @@
-//! Tests of `minread` from the outside: what the top call and the calls of the crates below it answer, over the
-//! forms of files and sinks in memory. There is nothing here but tests.
+//! Tests of `minread` from the outside: what the top call answers for matrices and plans, over the forms of files and
+//! sinks in memory. There is nothing here but tests.
 #![tactic(auto)]
 
 #[cfg(test)]

@@ -1,7 +1,13 @@
 pub mod Chains
 pub mod CheckSteps
+pub mod CodewordsOwn
+pub mod EncodeSteps
 pub mod Eyes
+pub mod Growing
+pub mod HeadLimits
 pub mod LostSymbols
 pub mod Makers
 pub mod PlanChoice
+pub mod RebuildSteps
 pub mod Sinks
+pub mod WithScript

@@ -5,6 +5,9 @@ pub mod Requests
 pub mod Losses
 pub mod CheckReply
 pub mod PlanReply
+pub mod EncodeReply
+pub mod RebuildReply
 pub mod Answer
 pub mod Replies
+pub mod Rebuilt
 pub mod Run

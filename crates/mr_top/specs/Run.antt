@@ -7,9 +7,9 @@ use Rattle.mr_top.specs.Faults.{fault_status, fault_line}
 use Rattle.mr_top.specs.Steps.{IsForeseen}
 use Rattle.mr_top.specs.declared.fault.Fault.{Fault}
 
--- the fact, where the files tell their contents
-abbrev pub WhereTold : Option Told → ((List ℕ → List ℕ) → Type 0) → Type 0
-WhereTold told P = IfSome told (λ t. P t.contents)
+-- the fact, where the files tell their contents and the script the bytes left in it
+abbrev pub WhereTold : Option Told → Option (List ℕ) → ((List ℕ → List ℕ) → List ℕ → Type 0) → Type 0
+WhereTold told script P = IfSome told (λ t. IfSome script (λ left. P t.contents left))
 
 -- the status of a definition's result
 abbrev pub status_of : {Y : Type 0} → Result Y Fault → ℕ

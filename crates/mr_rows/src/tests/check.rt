@@ -1,7 +1,7 @@
 //! The command `check`: which plans are valid, which are refused, and in which order.
 
-use crate::tests::fixture::{Case, Ran, SOUND, Schedule, assert_answer, assert_counts, run_by};
-use crate::tests::values::{Puts, RDP_3, WHOLE};
+use crate::tests::fixture::{Case, Ran, assert_answer, assert_counts, run_by};
+use mr_fixture::{Puts, RDP_3, SOUND, Schedule, WHOLE};
 use std::alloc::Global;
 use std::process::Abort;
 use std::test::Fail;

@@ -1,7 +1,7 @@
 //! Files that are not read and sinks that do not take: each call of the outside fails in turn.
 
-use crate::tests::fixture::{Ran, SOUND, Schedule, assert_counts, assert_left, run_by};
-use crate::tests::values::{Puts, RDP_3, WHOLE};
+use crate::tests::fixture::{Ran, assert_counts, assert_left, run_by};
+use mr_fixture::{Puts, RDP_3, SOUND, Schedule, WHOLE};
 use std::alloc::Global;
 use std::process::Abort;
 use std::test::Fail;

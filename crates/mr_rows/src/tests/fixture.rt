@@ -1,29 +1,12 @@
 //! A run of the top call over files and sinks in memory, and what it left.
 
-use crate::tests::values::{Puts, WHOLE, shown, sink_of};
-use mr_io::{Duty, MemFiles, MemSink, Text};
+use mr_fixture::{SOUND, Schedule, files_of, shown, sink_of, words_of};
+use mr_io::{Duty, MemFiles, MemSink, SureSource};
+use mr_kern::{XorKernel, block_plain};
 use mr_top::run;
 use std::alloc::Global;
 use std::process::Abort;
 use std::test::Fail;
-
-/// Which calls of the outside fail, and how many bytes the puts take.
-#[derive(Clone, Copy)]
-pub struct Schedule<'a> {
-    /// The calls of eyes that fail: an eye, from 1, and its call, from 1. Call 0 is that of the files for the eye.
-    pub eyes: &'a [(u64, u64)],
-    /// How `out` takes its bytes.
-    pub out: Puts<'a>,
-    /// How the report takes its bytes.
-    pub report: Puts<'a>,
-}
-
-/// Nothing fails.
-pub const SOUND: Schedule<'static> = Schedule {
-    eyes: &[],
-    out: WHOLE,
-    report: WHOLE,
-};
 
 /// What a run answered, and what it left.
 #[derive(Drop)]
@@ -53,28 +36,6 @@ pub fn refused<'a>(words: &'a [&'a str], status: u8, report: &'a str) -> Case<'a
     }
 }
 
-/// The words as the top call takes them.
-pub fn words_of(alloc: Global, words: &[&str]) -> Result<Vec<String>, Fail> {
-    let mut list = Vec::new(alloc);
-    for word in words {
-        list.push(String::from_str(alloc, word)?)?;
-    }
-    Ok(list)
-}
-
-fn files_of(
-    alloc: Global,
-    files: &[(&str, &[u8])],
-    fails: &[(u64, u64)],
-) -> Result<MemFiles, Fail> {
-    let mut list = Vec::new(alloc);
-    for (name, bytes) in files {
-        let name = Text::copy_of(alloc, name)?;
-        list.push((name, Vec::from_slice(alloc, bytes)?))?;
-    }
-    Ok(MemFiles::new(alloc, list, Vec::from_slice(alloc, fails)?)?)
-}
-
 /// Runs the words over these files, with these failures.
 pub fn run_by(
     alloc: Global,
@@ -86,7 +47,17 @@ pub fn run_by(
     let mut files = files_of(alloc, files, schedule.eyes)?;
     let mut out = sink_of(alloc, schedule.out)?;
     let mut report = sink_of(alloc, schedule.report)?;
-    let status = run(alloc, &words, &mut files, &mut out, &mut report);
+    let kernel = XorKernel::new(block_plain);
+    let mut script = SureSource::new(Vec::new(alloc));
+    let status = run(
+        alloc,
+        &words,
+        &mut files,
+        &mut script,
+        &mut out,
+        &mut report,
+        &kernel,
+    );
     Ok(Ran {
         status,
         files,

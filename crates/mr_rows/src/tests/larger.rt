@@ -1,7 +1,7 @@
 //! Plans for the larger matrices of the makers.
 
-use crate::tests::fixture::{Case, SOUND, assert_answer, assert_case, run_by};
-use crate::tests::values::RDP_5;
+use crate::tests::fixture::{Case, assert_answer, assert_case, run_by};
+use mr_fixture::{RDP_5, SOUND};
 use std::alloc::Global;
 use std::process::Abort;
 use std::test::Fail;

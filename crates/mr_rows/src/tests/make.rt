@@ -1,9 +1,7 @@
 //! The command `make`, and the matrices of the makers.
 
-use crate::tests::fixture::{
-    Case, SOUND, Schedule, assert_answer, assert_case, assert_counts, run_by,
-};
-use crate::tests::values::RDP_3;
+use crate::tests::fixture::{Case, assert_answer, assert_case, assert_counts, run_by};
+use mr_fixture::{RDP_3, SOUND, Schedule};
 use mr_form::read_matrix;
 use std::alloc::Global;
 use std::process::Abort;

@@ -1,7 +1,7 @@
 //! The command `plan`: which sets it chooses, and what it refuses.
 
 use crate::tests::fixture::{Case, assert_case, refused};
-use crate::tests::values::RDP_3;
+use mr_fixture::RDP_3;
 use std::test::Fail;
 
 /// The plan for row-diagonal parity of the prime 3 with device 0 lost.

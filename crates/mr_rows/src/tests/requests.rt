@@ -1,6 +1,6 @@
 //! What the words of the command line ask for.
 
-use crate::tests::fixture::words_of;
+use mr_fixture::words_of;
 use mr_top::{Request, read_words};
 use mr_words::{Code, WordsError};
 use std::alloc::Global;

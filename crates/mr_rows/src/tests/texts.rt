@@ -1,7 +1,7 @@
 //! Matrix texts, and the place at which each of the wrong ones is refused.
 
-use crate::tests::fixture::{SOUND, assert_answer, assert_case, assert_counts, refused, run_by};
-use crate::tests::values::RDP_3;
+use crate::tests::fixture::{assert_answer, assert_case, assert_counts, refused, run_by};
+use mr_fixture::{RDP_3, SOUND};
 use std::test::Fail;
 
 /// The words of these tests. Device 9 is none, so that a matrix is refused before a lost device is.

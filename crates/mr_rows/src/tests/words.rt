@@ -1,7 +1,7 @@
 //! The words of the command line.
 
-use crate::tests::fixture::{Case, SOUND, Schedule, assert_answer, assert_counts, refused, run_by};
-use crate::tests::values::RDP_3;
+use crate::tests::fixture::{Case, assert_answer, assert_counts, refused, run_by};
+use mr_fixture::{RDP_3, SOUND, Schedule};
 use std::alloc::Global;
 use std::process::Abort;
 use std::test::Fail;

@@ -10,6 +10,7 @@ use Rattle.mr_top.specs.Replies.{output_of}
 use Rattle.mr_top.specs.declared.reply.Reply.TheVariants.{Check}
 use Rattle.mr_top.proofs.Chains.{gives_named, reads_err, reads_given, reads_then}
 use Rattle.mr_top.proofs.CheckSteps.{cost_next, lost_next, plan_next, valid_next}
+use Rattle.mr_top.proofs.Growing.{grows_given, grows_then}
 use Rattle.mr_top.proofs.check.check.Goals as goal
 
 pub returns-in_err-matrix-clause-reads : goal.returns-in_err-matrix-clause-reads
@@ -72,3 +73,21 @@ returns-clause-reads g c =
     (gives_named (λ cost. cost) (Ok c.in_ok-cost.cost) (cost_given c.in_ok-matrix.matrix c.in_ok-problem.problem.targets) c.deref.ensures.value
     (gives_named (λ cost. cost) (Ok c.in_ok-cost.cost) (λ targets. cost_given c.in_ok-matrix.matrix targets c.deref.result.now) c.targets.ensures.targets c.in_ok-cost.ensures.given)))
     (reads_given output_of _ (Ok (Check c.in_ok-cost.cost)) (valid_next c.in_ok-cost.cost) refl)))))
+
+pub returns-clause-totals : goal.returns-clause-totals
+unfolding check_answer
+returns-clause-totals g c =
+    grows_then (λ m. m) _ _ _ _ _ c.in_ok-matrix.matrix (Ok (Check c.in_ok-cost.cost)) (λ contents. matrix_file contents c.args.matrix.now)
+    (λ contents m. lost_next contents c.args.lost.now c.args.plan.now m) c.in_ok-matrix.ensures.reads c.in_ok-matrix.ensures.totals
+    (grows_then (λ (problem : Loss). problem.targets) _ _ _ _ _ c.in_ok-problem.problem (Ok (Check c.in_ok-cost.cost)) (λ _. given (targets_given c.in_ok-matrix.matrix c.args.lost.now))
+    (λ contents targets. plan_next contents c.args.plan.now c.in_ok-matrix.matrix targets)
+    (reads_given (λ (problem : Loss). problem.targets) _ (Ok c.in_ok-problem.problem) (targets_given c.in_ok-matrix.matrix c.args.lost.now) c.in_ok-problem.ensures.given)
+    (grows_given _ _ (Ok c.in_ok-problem.problem) (targets_given c.in_ok-matrix.matrix c.args.lost.now))
+    (grows_then (λ bytes. bytes.items) _ _ _ _ _ c.in_ok-bytes.bytes (Ok (Check c.in_ok-cost.cost)) (λ contents. text_file contents c.args.plan.now PlanBytes)
+    (λ _ bytes. cost_next c.in_ok-matrix.matrix c.in_ok-problem.problem.targets bytes) c.in_ok-bytes.ensures.reads c.in_ok-bytes.ensures.totals
+    (grows_then (λ cost. cost) _ _ _ _ _ c.in_ok-cost.cost (Ok (Check c.in_ok-cost.cost)) (λ _. given (cost_given c.in_ok-matrix.matrix c.in_ok-problem.problem.targets c.in_ok-bytes.bytes.items)) (λ _ cost. given (valid_next cost))
+    (reads_given (λ cost. cost) _ (Ok c.in_ok-cost.cost) (cost_given c.in_ok-matrix.matrix c.in_ok-problem.problem.targets c.in_ok-bytes.bytes.items)
+    (gives_named (λ cost. cost) (Ok c.in_ok-cost.cost) (cost_given c.in_ok-matrix.matrix c.in_ok-problem.problem.targets) c.deref.ensures.value
+    (gives_named (λ cost. cost) (Ok c.in_ok-cost.cost) (λ targets. cost_given c.in_ok-matrix.matrix targets c.deref.result.now) c.targets.ensures.targets c.in_ok-cost.ensures.given)))
+    (grows_given _ _ (Ok c.in_ok-cost.cost) (cost_given c.in_ok-matrix.matrix c.in_ok-problem.problem.targets c.in_ok-bytes.bytes.items))
+    (grows_given _ _ (Ok (Check c.in_ok-cost.cost)) (valid_next c.in_ok-cost.cost)))))

@@ -3,6 +3,7 @@ use Rattle.mr_top.specs.Answer.{matrix_file, plan_answer, plan_given}
 use Rattle.mr_top.specs.Readings.{given}
 use Rattle.mr_top.specs.Replies.{output_of}
 use Rattle.mr_top.proofs.Chains.{reads_err, reads_given, reads_then}
+use Rattle.mr_top.proofs.Growing.{grows_given, grows_then}
 use Rattle.mr_top.proofs.plan.plan.Goals as goal
 
 pub returns-in_err-matrix-clause-reads : goal.returns-in_err-matrix-clause-reads
@@ -17,3 +18,10 @@ unfolding plan_answer
 returns-clause-reads g c = reads_then (λ m. m) output_of _ _ _ c.in_ok-matrix.matrix _
     (λ contents. matrix_file contents c.args.matrix.now) (λ contents m. given (plan_given c.args.budget m c.args.lost.now)) c.in_ok-matrix.ensures.reads
     (reads_given output_of _ _ _ c.plan_of.ensures.given)
+
+pub returns-clause-totals : goal.returns-clause-totals
+unfolding plan_answer
+returns-clause-totals g c = grows_then (λ m. m) _ _ _ _ _ c.in_ok-matrix.matrix _
+    (λ contents. matrix_file contents c.args.matrix.now) (λ contents m. given (plan_given c.args.budget m c.args.lost.now))
+    c.in_ok-matrix.ensures.reads c.in_ok-matrix.ensures.totals
+    (grows_given _ _ _ (plan_given c.args.budget c.in_ok-matrix.matrix c.args.lost.now))

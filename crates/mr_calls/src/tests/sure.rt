@@ -1,0 +1,56 @@
+//! The forms in memory that never fail.
+
+use mr_io::{Duty, Eye, Files, Sink, Source, SureFiles, SureSink, SureSource, Text};
+use std::test::Fail;
+
+/// A source gives as many bytes as fit.
+#[test]
+fn source(rt: HostRuntime) -> Result<(), Fail> {
+    let mut source = SureSource::new(Vec::from_slice(rt.alloc(), b"0123456")?);
+    let mut bytes = [0; 5];
+    assert_eq!(rt; source.get(&mut bytes), Ok(5));
+    assert_eq!(rt; bytes, *b"01234");
+    assert_eq!(rt; source.get(&mut bytes), Ok(2));
+    assert_eq!(rt; bytes, *b"56234");
+    assert_eq!(rt; source.get(&mut bytes), Ok(0));
+    Ok(())
+}
+
+/// A sink takes every byte, and keeps those that fit.
+#[test]
+fn sink(rt: HostRuntime) -> Result<(), Fail> {
+    let mut sink = SureSink::new(rt.alloc(), 5)?;
+    assert_eq!(rt; sink.put(b"abc"), Ok(3));
+    assert_eq!(rt; sink.put(b"def"), Ok(3));
+    assert_eq!(rt; sink.put(b"g"), Ok(1));
+    assert_eq!(rt; sink.bytes(), b"abcde".as_slice());
+    Ok(())
+}
+
+/// An eye reads the bytes of its file, and they are counted where it is taken back. A file that is not there is empty.
+#[test]
+fn files(rt: HostRuntime) -> Result<(), Fail> {
+    let alloc = rt.alloc();
+    let mut list = Vec::new(alloc);
+    list.push((
+        Text::copy_of(alloc, "a")?,
+        Vec::from_slice(alloc, b"hello")?,
+    ))?;
+    let mut files = SureFiles::new(alloc, list)?;
+    let mut eye = files.eye("a", Duty::Live)?;
+    let mut bytes = [0; 3];
+    let length = eye.len();
+    let read = eye.read_at(1, &mut bytes);
+    files.retire(eye);
+    assert_eq!(rt; length, Ok(5));
+    assert_eq!(rt; read, Ok(()));
+    assert_eq!(rt; bytes.as_slice(), b"ell".as_slice());
+    assert_eq!(rt; files.total(Duty::Live), 3);
+    let mut none = files.eye("b", Duty::Live)?;
+    let length = none.len();
+    files.retire(none);
+    assert_eq!(rt; length, Ok(0));
+    assert_eq!(rt; files.total(Duty::Live), 3);
+    assert_eq!(rt; files.total(Duty::Copy), 0);
+    Ok(())
+}
