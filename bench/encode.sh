@@ -3,6 +3,7 @@
 # `cp` of the image into a file, and prints the least times and their ratio.
 # Usage: bench/encode.sh [RUNS]; build the program first, by ./minread or by rt run in crates/minread.
 set -eu
+export GLIBC_TUNABLES=${GLIBC_TUNABLES-glibc.malloc.hugetlb=1} # as ./minread sets it; GLIBC_TUNABLES= runs without it
 runs=${1:-5}
 top=$(cd "$(dirname "${BASH_SOURCE[0]}")/.." && pwd)
 program=$top/crates/minread/out/minread

@@ -4,6 +4,7 @@
 # prints the least times and their ratio. The image is made by `encode`, and device 0 is overwritten.
 # Usage: bench/rebuild.sh [RUNS]; build the program first, by ./minread or by rt run in crates/minread.
 set -eu
+export GLIBC_TUNABLES=${GLIBC_TUNABLES-glibc.malloc.hugetlb=1} # as ./minread sets it; GLIBC_TUNABLES= runs without it
 runs=${1:-5}
 top=$(cd "$(dirname "${BASH_SOURCE[0]}")/.." && pwd)
 program=$top/crates/minread/out/minread

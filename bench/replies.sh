@@ -5,6 +5,7 @@
 # A second script has 131,072 lines for an image of 8-byte symbols.
 # Usage: bench/replies.sh [RUNS]; build the program first, by ./minread or by rt run in crates/minread.
 set -eu
+export GLIBC_TUNABLES=${GLIBC_TUNABLES-glibc.malloc.hugetlb=1} # as ./minread sets it; GLIBC_TUNABLES= runs without it
 runs=${1:-5}
 top=$(cd "$(dirname "${BASH_SOURCE[0]}")/.." && pwd)
 program=$top/crates/minread/out/minread
