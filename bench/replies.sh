@@ -4,55 +4,29 @@
 # file, and writes as many bytes by `head`. It prints the least times, and the ratio of what the replies add to the writing.
 # A second script has 131,072 lines for an image of 8-byte symbols.
 # Usage: bench/replies.sh [RUNS]; build the program first, by ./minread or by rt run in crates/minread.
-set -eu
-export GLIBC_TUNABLES=${GLIBC_TUNABLES-glibc.malloc.hugetlb=1} # as ./minread sets it; GLIBC_TUNABLES= runs without it
-runs=${1:-5}
-top=$(cd "$(dirname "${BASH_SOURCE[0]}")/.." && pwd)
-program=$top/crates/minread/out/minread
-matrix=$top/examples/rdp5.matrix
-folder=$(mktemp -d)
-trap 'rm -rf "$folder"' EXIT
-
-# NAME STRIPES BYTES: the image of random data
-image() {
-  head -c $(($2 * 16 * $3)) /dev/urandom >"$folder/data"
-  "$program" encode "$matrix" "$folder/data" "$2" "$3" >"$folder/$1"
-  rm "$folder/data"
-}
+. "$(dirname "${BASH_SOURCE[0]}")/images.sh"
 
 # ASKS STRIPES: asks that go through the stripes and the symbols
 script() {
-  awk -v asks="$1" -v stripes="$2" 'BEGIN { for (k = 0; k < asks; k++) printf "%d %d\n", (k * 7) % stripes, k % 24 }'
+  awk -v asks="$1" -v stripes="$2" -v symbols="$symbols" 'BEGIN { for (k = 0; k < asks; k++) printf "%d %d\n", (k * 7) % stripes, k % symbols }'
 }
 
-# NAME SCRIPT COMMAND..: adds the nanoseconds of the command to the file NAME
-timed() {
-  local name=$1 input=$2 start end
-  shift 2
-  start=$(date +%s%N)
-  "$@" <"$input" >"$folder/out" 2>"$folder/report"
-  end=$(date +%s%N)
-  echo $((end - start)) >>"$folder/$name.ns"
-}
-
-least() { sort -n "$folder/$1.ns" | head -n 1; }
-
-# NAME IMAGE ASKS: a line of the times
+# NAME ASKS: a line of the times for the image and the script NAME
 measure() {
   local size
   for _ in $(seq "$runs"); do
-    timed "$1.plain" /dev/null "$program" rebuild "$matrix" "$folder/$2" 0 --workers 1
-    timed "$1.asked" "$folder/$1.script" "$program" rebuild "$matrix" "$folder/$2" 0 --workers 1
+    timed "$1.plain" /dev/null "$program" rebuild "$matrix" "$folder/$1" 0 --workers 1
+    timed "$1.asked" "$folder/$1.script" "$program" rebuild "$matrix" "$folder/$1" 0 --workers 1
     size=$(stat -c %s "$folder/report")
     timed "$1.write" /dev/null head -c "$size" /dev/zero
   done
-  awk -v name="$1" -v plain="$(least "$1.plain")" -v asked="$(least "$1.asked")" -v write="$(least "$1.write")" -v size="$size" -v asks="$3" \
+  awk -v name="$1" -v plain="$(least "$1.plain")" -v asked="$(least "$1.asked")" -v write="$(least "$1.write")" -v size="$size" -v asks="$2" \
     'BEGIN { printf "%s: %d asks, %d bytes of report, without %.3f s, with %.3f s, writing as many bytes %.3f s, ratio %.2f\n", name, asks, size, plain / 1e9, asked / 1e9, write / 1e9, (asked - plain) / write }'
 }
 
 image large 1000 4096
 script 16384 1000 >"$folder/large.script"
-measure large large 16384
+measure large 16384
 image small 1000 8
 script 131072 1000 >"$folder/small.script"
-measure small small 131072
+measure small 131072
