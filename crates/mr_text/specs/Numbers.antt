@@ -11,7 +11,8 @@ greatest_number = 999999999
 
 -- one to nine digits, of which the first is not 0 (its code is 48)
 abbrev pub is_long_number : List ℕ → Bool
-is_long_number text = nat_lt 0 (length text) && (nat_le (length text) 9 && (not (slice_index text 0 == 48) && list_all is_ascii_digit text))
+is_long_number text = nat_lt 0 (length text) && (nat_le (length text) 9
+    && (not (slice_index text 0 == 48) && list_all is_ascii_digit text))
 
 -- `0`, or one to nine digits of which the first is not 0
 unfoldable pub is_number : List ℕ → Bool
