@@ -1,13 +1,13 @@
 -- The rows of a matrix in their room of 128.
-use Rattle.std.proofs.Common.{◌≡◌, ℕ, suc, ◌+◌, ◌-◌, ◌*◌, ◌/◌, ◌%◌, ◌^◌, ◌<◌, ◌≤◌, List, [], ◌∷◌, ◌++◌, length, get_or, take, replicate, set, append_assoc, sym, ap, subst, ◌∙◌, arith, length-take, pow_pos, mod-eq_of_lt, mul-le-mul_right}
+use Rattle.std.proofs.Common.{◌≡◌, ℕ, zero, suc, ◌+◌, ◌-◌, ◌*◌, ◌/◌, ◌%◌, ◌^◌, ◌<◌, ◌≤◌, List, [], ◌∷◌, ◌++◌, length, get_or, take, replicate, refl, set, append_assoc, sym, ap, subst, ◌∙◌, arith, length-take, pow_pos, mod-eq_of_lt, mul-le-mul_right}
 use Rattle.std.proofs.Math.Nat.{mul-lt-mul_of_pos_right}
 use Rattle.std.proofs.Math.Pow.{pow_mono}
 use Rattle.std.proofs.lemmas.Nat.{pow-add}
 use Rattle.std.proofs.Math.Seq.{set-append_seam}
 use Rattle.std.proofs.lemmas.List.{take_more}
 use Rattle.std.proofs.lemmas.Nat.Bits.{ones_shr}
-use Rattle.mr_model.specs.Code.{Dimensions}
-use Rattle.mr_bits.specs.Matrices.{symbol_count, padded, IsMatrix}
+use Rattle.mr_model.specs.Code.{Dimensions, priced_code}
+use Rattle.mr_bits.specs.Matrices.{symbol_count, padded, IsMatrix, IsMatrixCode}
 
 -- one row more in the room
 pub padded-more : (rows : List ℕ) (i : ℕ) → i < length rows → length rows ≤ 128
@@ -47,5 +47,32 @@ device_ones n w d within few some =
     ap (λ v. v * 2 ^ (d * w) % 2 ^ 128) (low_ones w (omega arith)) ∙ mod-eq_of_lt small
 
 -- the rows of a matrix are as many as its symbols
-pub row_count : (d : Dimensions) (rows : List ℕ) → IsMatrix d rows → length (take (symbol_count d) rows) ≡ symbol_count d
-row_count d rows h = let few = h.shape.few_symbols in omega (arith, length-take (symbol_count d) rows, h.room)
+pub row_count : (d : Dimensions) (rows prices : List ℕ) → IsMatrix d rows prices → length (take (symbol_count d) rows) ≡ symbol_count d
+row_count d rows prices h = let few = h.shape.few_symbols in omega (arith, length-take (symbol_count d) rows, h.room)
+
+pub devices-few : (n w : ℕ) → 1 ≤ w → n ≤ n * w
+devices-few n zero some = absurd (omega arith)
+devices-few n (suc w) some = omega arith
+
+-- there is a price for each device
+pub price_count : (d : Dimensions) (rows prices : List ℕ) → IsMatrix d rows prices → length (take d.devices prices) ≡ d.devices
+price_count d rows prices h =
+    let few = devices-few d.devices d.symbols_per_device h.shape.some_symbols in
+    omega (arith, length-take d.devices prices, h.price_room, few, h.shape.few_symbols)
+
+-- what a matrix keeps is a code within the limits
+pub matrix-code : (d : Dimensions) (rows prices : List ℕ) → IsMatrix d rows prices
+    → IsMatrixCode (priced_code d (take (symbol_count d) rows) (take d.devices prices))
+matrix-code d rows prices h = record {
+  shape = h.shape;
+  count = row_count d rows prices h;
+  columns = h.columns;
+  price_count = price_count d rows prices h;
+  priced = h.priced;
+}
+
+pub take-ones : (m n : ℕ) → n ≤ m → take n (replicate m 1) ≡ replicate {A = ℕ} n 1
+take-ones zero zero few = refl
+take-ones zero (suc n) few = absurd (omega arith)
+take-ones (suc m) zero few = refl
+take-ones (suc m) (suc n) few = ap (λ (ps : List ℕ). 1 ∷ ps) (take-ones m n (omega arith))

@@ -19,20 +19,41 @@ pub record Dimensions : Type 0 where
   pub symbols_per_device : ℕ
   pub columns : ℕ
 
+-- the most symbols that a code may have in this program, the most columns, and the greatest price of
+-- a device
+abbrev pub most_symbols : ℕ
+most_symbols = 128
+
+abbrev pub most_columns : ℕ
+most_columns = 128
+
+abbrev pub greatest_price : ℕ
+greatest_price = 1000
+
 -- dimensions within the limits of this program
 pub record IsDimensions (d : Dimensions) : Type 0 where
   pub some_devices : 1 ≤ d.devices
   pub some_symbols : 1 ≤ d.symbols_per_device
   pub some_columns : 1 ≤ d.columns
-  pub few_symbols : d.devices * d.symbols_per_device ≤ 128
-  pub few_columns : d.columns ≤ 128
+  pub few_symbols : d.devices * d.symbols_per_device ≤ most_symbols
+  pub few_columns : d.columns ≤ most_columns
 
 abbrev pub dimensions : Code → Dimensions
 dimensions m = record { devices = m.devices; symbols_per_device = m.symbols_per_device; columns = m.columns }
 
--- the code of these dimensions and rows in which each symbol has the price 1
+-- the code of these dimensions, rows and prices
+abbrev pub priced_code : Dimensions → List ℕ → List ℕ → Code
+priced_code d rows prices = record {
+  devices = d.devices;
+  symbols_per_device = d.symbols_per_device;
+  columns = d.columns;
+  rows = rows;
+  prices = prices;
+}
+
+-- the code of these dimensions and rows in which each device has the price 1
 abbrev pub code_of : Dimensions → List ℕ → Code
-code_of d rows = record { devices = d.devices; symbols_per_device = d.symbols_per_device; columns = d.columns; rows = rows; prices = replicate d.devices 1 }
+code_of d rows = priced_code d rows (replicate d.devices 1)
 
 -- the set of the symbols of device i
 abbrev pub device_symbols : Code → ℕ → ℕ
