@@ -38,7 +38,7 @@ pub takes_next : (a b c : Option Held) (bytes : List ℕ) (done n : ℕ)
 takes_next a b c bytes done n first then =
     subst (λ xs. Takes a c xs) (take_more_front bytes done n) (takes_more a b c _ _ first then)
 
--- The same, with the rest of the text as a range up to its length.
+-- The next put, where the rest of the text is written as a range up to its length.
 pub takes_next_range : (a b c : Option Held) (bytes : List ℕ) (done n : ℕ)
     → Takes a b (take done bytes) → Takes b c (take n (take (length bytes - done) (drop done bytes))) → Takes a c (take (done + n) bytes)
 takes_next_range a b c bytes done n first then =
@@ -92,7 +92,8 @@ flat_map-at f xs i x h =
     ∙ sym (flat_map-append f (take i xs) (drop i xs))
     ∙ ap (flat_map f) (take-append-drop i xs)
 
-flat_map-take : {X : Type 0} (f : X → List ℕ) (xs : List X) (i : ℕ) (x : X) → i < length xs
+-- The texts before an index, and the one there.
+pub flat_map-take : {X : Type 0} (f : X → List ℕ) (xs : List X) (i : ℕ) (x : X) → i < length xs
     → flat_map f (take i xs) ++ f (get_or xs i x) ≡ flat_map f (take (i + 1) xs)
 flat_map-take f xs i x h =
     ap (λ bytes. flat_map f (take i xs) ++ bytes) (sym (append-nil (f (get_or xs i x))))
@@ -105,7 +106,7 @@ pub takes_piece : {X : Type 0} (f : X → List ℕ) (a b c : Option Held) (xs : 
 takes_piece f a b c xs i x h first then =
     subst (λ bytes. Takes a c bytes) (flat_map-take f xs i x h) (takes_more a b c _ _ first then)
 
--- The same, where the next one stops within.
+-- Texts that are put one after the other, where the next one stops within.
 pub part_piece : {X : Type 0} (f : X → List ℕ) (a b c : Option Held) (xs : List X) (i : ℕ) (x : X) → i < length xs
     → Takes a b (flat_map f (take i xs)) → TakesPart b c (f (get_or xs i x)) → TakesPart a c (flat_map f xs)
 part_piece f a b c xs i x h first then =

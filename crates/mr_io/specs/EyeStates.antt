@@ -30,4 +30,6 @@ eye_called state = record state {
 
 -- The eye after a read of so many bytes.
 abbrev pub eye_reading : EyeState → ℕ → EyeState
-eye_reading state count = record (eye_called state) { sight = (if eye_fails state then state.sight else sight_with state.sight count) }
+eye_reading state count = record (eye_called state) {
+  sight = (if eye_fails state then state.sight else sight_with state.sight count);
+}

@@ -32,7 +32,11 @@ abbrev pub contents_of : List (List ℕ × List ℕ) → List ℕ → List ℕ
 contents_of files name = unwrap_or (file_of files name) []
 
 abbrev pub told_of : FilesState → Told
-told_of state = record { contents = contents_of state.files; asked = state.asked; lent = state.lent }
+told_of state = record {
+  contents = contents_of state.files;
+  asked = state.asked;
+  lent = state.lent;
+}
 
 -- A file of the struct as its name and its bytes.
 abbrev pub entry_of : MemFile → List ℕ × List ℕ
@@ -40,7 +44,8 @@ entry_of file = (file.name, (arc_value file.bytes).items)
 
 -- The bytes behind the eye that the next `eye` call on this name lends: none where that call fails.
 abbrev pub lent_bytes : FilesState → List ℕ → Option (List ℕ)
-lent_bytes state name = if is_failing state.fails (counted state.calls 1) 0 then None else file_of state.files name
+lent_bytes state name =
+    if is_failing state.fails (counted state.calls 1) 0 then None else file_of state.files name
 
 -- That eye.
 abbrev pub lent_eye : FilesState → List ℕ → Duty → EyeState
@@ -57,10 +62,14 @@ abbrev pub files_called : FilesState → FilesState
 files_called state = record state { calls = counted state.calls 1 }
 
 abbrev pub files_asked : FilesState → List ℕ → Duty → FilesState
-files_asked state name duty = record (files_called state) { asked = state.asked ++ record { name = name; duty = duty } ∷ [] }
+files_asked state name duty = record (files_called state) {
+  asked = state.asked ++ record { name = name; duty = duty } ∷ [];
+}
 
 abbrev pub files_refusing : FilesState → List ℕ → Duty → FilesState
-files_refusing state name duty = record (files_asked state name duty) { faults = counted state.faults 1 }
+files_refusing state name duty = record (files_asked state name duty) {
+  faults = counted state.faults 1;
+}
 
 abbrev pub files_lending : FilesState → List ℕ → Duty → FilesState
 files_lending state name duty = record (files_asked state name duty) { lent = state.lent + 1 }

@@ -18,7 +18,8 @@ source_fails state = list_any (λ call. call == counted state.calls 1) state.fai
 
 -- How many bytes the next call gives into room for so many: none where it fails.
 abbrev pub source_gives : SourceState → ℕ → ℕ
-source_gives state room = if source_fails state then 0 else min room (min state.most (length state.left))
+source_gives state room =
+    if source_fails state then 0 else min room (min state.most (length state.left))
 
 -- The source after a call with room for so many bytes.
 abbrev pub source_after : SourceState → ℕ → SourceState

@@ -34,11 +34,17 @@ pub record SureFilesState : Type 0 where
 
 -- What they tell.
 abbrev pub sure_told : SureFilesState → Told
-sure_told state = record { contents = contents_of state.files; asked = state.asked; lent = state.lent }
+sure_told state = record {
+  contents = contents_of state.files;
+  asked = state.asked;
+  lent = state.lent;
+}
 
 -- The files after an eye was asked for, and after it was lent.
 abbrev pub sure_asked : SureFilesState → List ℕ → Duty → SureFilesState
-sure_asked state name duty = record state { asked = state.asked ++ record { name = name; duty = duty } ∷ [] }
+sure_asked state name duty = record state {
+  asked = state.asked ++ record { name = name; duty = duty } ∷ [];
+}
 
 abbrev pub sure_lending : SureFilesState → List ℕ → Duty → SureFilesState
 sure_lending state name duty = record (sure_asked state name duty) { lent = state.lent + 1 }

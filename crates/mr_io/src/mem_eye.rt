@@ -32,7 +32,11 @@ impl Model for MemEye {
     ghost Value = { EyeState };
 
     ghost view = { λ eye. record {
-      sight = record { bytes = Some (arc_value eye.bytes).items; duty = eye.duty; taken = eye.taken };
+      sight = record {
+        bytes = Some (arc_value eye.bytes).items;
+        duty = eye.duty;
+        taken = eye.taken;
+      };
       number = eye.number;
       calls = eye.calls;
       fails = (arc_value eye.fails).items;
@@ -112,7 +116,8 @@ impl Eye for MemEye {
     ghost faults = { λ eye. eye.faults };
 
     fn len(&mut self) -> Result<u64, Failed>
-        ensures number { IfOk result (λ n. IfSome self.old.sight.bytes (λ bytes. n ≡ length bytes)) }
+        ensures number { IfOk result (λ n. IfSome self.old.sight.bytes (λ bytes.
+            n ≡ length bytes)) }
         ensures same { self.new.sight ≡ self.old.sight }
         ensures cause { HasCause self.old.faults self.new.faults result }
         ensures fails { is_err result ≡ eye_fails self.old }
@@ -124,7 +129,8 @@ impl Eye for MemEye {
 
     fn read_at(&mut self, at: u64, buf: &mut [u8]) -> Result<(), Failed>
         requires { IfSome self.old.sight.bytes (λ bytes. at + length buf.old ≤ length bytes) }
-        ensures read { OnOk result (IfSome self.old.sight.bytes (λ bytes. buf.new ≡ take (length buf.old) (drop at bytes))) }
+        ensures read { OnOk result (IfSome self.old.sight.bytes (λ bytes.
+            buf.new ≡ take (length buf.old) (drop at bytes))) }
         ensures ok { OnOk result (self.new.sight ≡ sight_with self.old.sight (length buf.old)) }
         ensures err { OnErr result (self.new.sight ≡ self.old.sight) }
         ensures cause { HasCause self.old.faults self.new.faults result }

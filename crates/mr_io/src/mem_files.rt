@@ -112,7 +112,8 @@ impl MemFiles {
 
 /// The files with bytes that eyes can share.
 pub(crate) fn shared(alloc: Global, files: Vec<(Text, Vec<u8>)>) -> Result<Vec<MemFile>, NoMemory>
-    ensures { IfOk result (λ made. map entry_of made.items ≡ map (λ file. (file.0, file.1.items)) files.items) }
+    ensures { IfOk result (λ made.
+        map entry_of made.items ≡ map (λ file. (file.0, file.1.items)) files.items) }
 {
     let mut made = Vec::new(alloc);
     for (name, bytes) in files {
@@ -125,7 +126,8 @@ pub(crate) fn shared(alloc: Global, files: Vec<(Text, Vec<u8>)>) -> Result<Vec<M
 /// The bytes of the first file of this name.
 pub(crate) fn bytes_of<'a>(files: &'a [MemFile], name: &str) -> Option<&'a Arc<Vec<u8>>>
     ensures { MatchOption result (file_of (map entry_of files.now) (chars name.now) ≡ None)
-        (λ bytes. file_of (map entry_of files.now) (chars name.now) ≡ Some (arc_value bytes.now).items) }
+        (λ bytes. file_of (map entry_of files.now) (chars name.now)
+        ≡ Some (arc_value bytes.now).items) }
 {
     for file in files {
         if file.name.is(name) {
@@ -142,7 +144,8 @@ pub(crate) fn ask(
     name: &str,
     duty: Duty,
 ) -> Result<(), FilesError>
-    ensures ok { OnOk result (asked.new.items ≡ asked.old.items ++ record { name = chars name.now; duty = duty } ∷ []) }
+    ensures ok { OnOk result (asked.new.items
+        ≡ asked.old.items ++ record { name = chars name.now; duty = duty } ∷ []) }
     ensures len { OnOk result (vec_len asked.new ≡ vec_len asked.old + 1) }
     ensures err { OnErr result (asked.new.items ≡ asked.old.items) }
     ensures same_len { OnErr result (vec_len asked.new ≡ vec_len asked.old) }
@@ -171,7 +174,8 @@ fn look(
     ensures there { OnOk result (IsSome (file_of (map entry_of files.now) (chars name.now))) }
     ensures heard { OnOk result (is_failing (arc_value fails.now).items number 0 ≡ false) }
     ensures failed { IsErrOf result FilesError.Failed
-        → (is_failing (arc_value fails.now).items number 0 ≡ true) ⊎ (file_of (map entry_of files.now) (chars name.now) ≡ None) }
+        → (is_failing (arc_value fails.now).items number 0 ≡ true)
+        ⊎ (file_of (map entry_of files.now) (chars name.now) ≡ None) }
 {
     if is_listed(fails, number, 0) {
         return Err(FilesError::Failed);
@@ -192,23 +196,33 @@ impl Files for MemFiles {
     ghost faults = { λ m. m.faults };
 
     fn eye(&mut self, name: &str, duty: Duty) -> Result<MemEye, FilesError>
-        ensures given { OnOk result (Some (told_of self.new) ≡ Some (told_giving (chars name.now) duty (told_of self.old))) }
-        ensures fresh { IfOk result (λ eye. (eye.sight ≡ fresh_sight (Some (contents_of self.old.files (chars name.now))) duty) × (eye.faults ≡ 0)) }
+        ensures given { OnOk result (Some (told_of self.new)
+            ≡ Some (told_giving (chars name.now) duty (told_of self.old))) }
+        ensures fresh { IfOk result (λ eye. (eye.sight
+            ≡ fresh_sight (Some (contents_of self.old.files (chars name.now))) duty)
+            × (eye.faults ≡ 0)) }
         ensures failed { IsErrOf result FilesError.Failed
-            → Some (told_of self.new) ≡ Some (told_asking (record { name = chars name.now; duty = duty } ∷ []) (told_of self.old)) }
-        ensures memory { IsErrOf result FilesError.Memory → (Some (told_of self.new) ≡ Some (told_of self.old))
-            ⊎ (Some (told_of self.new) ≡ Some (told_asking (record { name = chars name.now; duty = duty } ∷ []) (told_of self.old))) }
+            → Some (told_of self.new) ≡ Some
+            (told_asking (record { name = chars name.now; duty = duty } ∷ []) (told_of self.old)) }
+        ensures memory { IsErrOf result FilesError.Memory
+            → (Some (told_of self.new) ≡ Some (told_of self.old))
+            ⊎ (Some (told_of self.new) ≡ Some
+            (told_asking (record { name = chars name.now; duty = duty } ∷ []) (told_of self.old))) }
         ensures totals { self.new.totals ≡ self.old.totals }
         ensures later { self.old.faults ≤ self.new.faults }
+        ensures quiet { OnOk result (self.new.faults ≡ self.old.faults) }
         ensures cause { IsErrOf result FilesError.Failed → Rose self.old.faults self.new.faults }
 
         // Which calls fail, which eye the others lend, and what the files are then.
         ensures eye { IfOk result (λ eye. eye ≡ lent_eye self.old (chars name.now) duty) }
-        ensures lent { OnOk result (IsSome (lent_bytes self.old (chars name.now)) × (self.new ≡ files_lending self.old (chars name.now) duty)) }
+        ensures lent { OnOk result (IsSome (lent_bytes self.old (chars name.now))
+            × (self.new ≡ files_lending self.old (chars name.now) duty)) }
         ensures refused { IsErrOf result FilesError.Failed
-            → (lent_bytes self.old (chars name.now) ≡ None) × (self.new ≡ files_refusing self.old (chars name.now) duty) }
+            → (lent_bytes self.old (chars name.now) ≡ None)
+            × (self.new ≡ files_refusing self.old (chars name.now) duty) }
         ensures wanting { IsErrOf result FilesError.Memory
-            → (self.new ≡ files_called self.old) ⊎ (self.new ≡ files_asked self.old (chars name.now) duty) }
+            → (self.new ≡ files_called self.old)
+            ⊎ (self.new ≡ files_asked self.old (chars name.now) duty) }
     {
         self.calls = add_count(self.calls, 1);
         ask(&mut self.asked, self.alloc, name, duty)?;
@@ -228,7 +242,8 @@ impl Files for MemFiles {
     fn retire(&mut self, eye: MemEye)
         requires { 0 < self.old.lent }
         ensures told { Some (told_of self.new) ≡ Some (told_retiring (told_of self.old)) }
-        ensures totals { self.new.totals ≡ totals_with self.old.totals eye.sight.duty eye.sight.taken }
+        ensures totals { self.new.totals
+            ≡ totals_with self.old.totals eye.sight.duty eye.sight.taken }
         ensures faults { self.new.faults ≡ counted self.old.faults eye.faults }
         ensures state { self.new ≡ files_retiring self.old eye }
     {

@@ -116,13 +116,16 @@ impl Sink for MemSink {
 
     fn put(&mut self, bytes: &[u8]) -> Result<usize, Failed>
         ensures bound { IfOk result (λ n. (0 < n) × (n ≤ length bytes.now)) }
-        ensures taken { IfOk result (λ n. Takes (Some self.old.held) (Some self.new.held) (take n bytes.now)) }
+        ensures taken { IfOk result (λ n.
+            Takes (Some self.old.held) (Some self.new.held) (take n bytes.now)) }
         ensures none { OnErr result (Takes (Some self.old.held) (Some self.new.held) []) }
         ensures cause { HasCause self.old.faults self.new.faults result }
 
         // Which puts fail and how many bytes the others take.
-        ensures count { MatchResult result (λ n. n ≡ sink_takes self.old (length bytes.now)) (λ _. sink_takes self.old (length bytes.now) ≡ 0) }
-        ensures state { self.new ≡ sink_after self.old (take (sink_takes self.old (length bytes.now)) bytes.now) }
+        ensures count { MatchResult result (λ n. n ≡ sink_takes self.old (length bytes.now))
+            (λ _. sink_takes self.old (length bytes.now) ≡ 0) }
+        ensures state { self.new
+            ≡ sink_after self.old (take (sink_takes self.old (length bytes.now)) bytes.now) }
     {
         let count = count_taken(self.calls, &self.takes, &self.fails, self.room, bytes.len());
         self.calls = add_count(self.calls, 1);

@@ -55,7 +55,7 @@ impl MemSource {
         MemSource::slow(bytes, fails, usize::MAX)
     }
 
-    /// The same, where each call gives at most `most` bytes.
+    /// A source of these bytes whose calls give at most `most` each, and fail as those of `new`.
     pub fn slow(bytes: Vec<u8>, fails: Vec<u64>, most: usize) -> MemSource
         requires { 0 < most }
         ensures { result ≡ record {
@@ -95,7 +95,8 @@ impl Source for MemSource {
         ensures cause { HasCause self.old.faults self.new.faults result }
 
         // Which calls fail and how many bytes the others give.
-        ensures count { MatchResult result (λ n. (n ≡ source_gives self.old (length buf.old)) × (source_fails self.old ≡ false))
+        ensures count { MatchResult result
+            (λ n. (n ≡ source_gives self.old (length buf.old)) × (source_fails self.old ≡ false))
             (λ _. source_fails self.old ≡ true) }
         ensures state { self.new ≡ source_after self.old (length buf.old) }
     {

@@ -22,7 +22,8 @@ pub fn put_all<K: Sink>(sink: &mut K, bytes: &[u8]) -> Result<(), Failed>
 /// Puts all the pieces, one after the other. After `Failed` the sink took a front of their bytes that is
 /// not all. Takes no memory.
 pub fn put_pieces<K: Sink>(sink: &mut K, pieces: &[&[u8]]) -> Result<(), Failed>
-    ensures puts { Puts (K.held sink.old) (K.held sink.new) result (flat_map (λ piece. piece.now) pieces.now) }
+    ensures puts { Puts (K.held sink.old) (K.held sink.new) result
+        (flat_map (λ piece. piece.now) pieces.now) }
     ensures cause { HasCause (K.faults sink.old) (K.faults sink.new) result }
 {
     for piece in pieces {

@@ -19,7 +19,8 @@ pub trait Sink {
     fn put(&mut self, bytes: &[u8]) -> Result<usize, Failed>
         requires { 0 < length bytes.now }
         ensures bound { IfOk result (λ n. (0 < n) × (n ≤ length bytes.now)) }
-        ensures taken { IfOk result (λ n. Takes (held self.old) (held self.new) (take n bytes.now)) }
+        ensures taken { IfOk result (λ n.
+            Takes (held self.old) (held self.new) (take n bytes.now)) }
         ensures none { OnErr result (Takes (held self.old) (held self.new) []) }
         ensures cause { HasCause (faults self.old) (faults self.new) result };
 }

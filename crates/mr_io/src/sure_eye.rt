@@ -26,7 +26,11 @@ impl Model for SureEye {
 
     ghost Value = { Sight };
 
-    ghost view = { λ eye. record { bytes = Some (arc_value eye.bytes).items; duty = eye.duty; taken = eye.taken } };
+    ghost view = { λ eye. record {
+      bytes = Some (arc_value eye.bytes).items;
+      duty = eye.duty;
+      taken = eye.taken;
+    } };
 }
 
 impl SureEye {
@@ -71,7 +75,8 @@ impl Eye for SureEye {
 
     fn read_at(&mut self, at: u64, buf: &mut [u8]) -> Result<(), Failed>
         requires { IfSome self.old.bytes (λ bytes. at + length buf.old ≤ length bytes) }
-        ensures read { OnOk result (IfSome self.old.bytes (λ bytes. buf.new ≡ take (length buf.old) (drop at bytes))) }
+        ensures read { OnOk result (IfSome self.old.bytes (λ bytes.
+            buf.new ≡ take (length buf.old) (drop at bytes))) }
         ensures ok { OnOk result (self.new ≡ sight_with self.old (length buf.old)) }
         ensures err { OnErr result (self.new ≡ self.old) }
         ensures cause { HasCause 0 0 result }

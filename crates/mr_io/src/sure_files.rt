@@ -78,7 +78,8 @@ impl SureFiles {
 
 // The bytes of the first file of this name, or no bytes.
 fn contents(alloc: Global, files: &[MemFile], name: &str) -> Result<Arc<Vec<u8>>, FilesError>
-    ensures bytes { IfOk result (λ bytes. (arc_value bytes).items ≡ contents_of (map entry_of files.now) (chars name.now)) }
+    ensures bytes { IfOk result (λ bytes.
+        (arc_value bytes).items ≡ contents_of (map entry_of files.now) (chars name.now)) }
     ensures memory { OnErr result (IsErrOf result FilesError.Memory) }
 {
     match bytes_of(files, name) {
@@ -97,20 +98,30 @@ impl Files for SureFiles {
     ghost faults = { λ _. 0 };
 
     fn eye(&mut self, name: &str, duty: Duty) -> Result<SureEye, FilesError>
-        ensures given { OnOk result (Some (sure_told self.new) ≡ Some (told_giving (chars name.now) duty (sure_told self.old))) }
-        ensures fresh { let faults : ℕ = 0 in IfOk result (λ eye. (eye ≡ fresh_sight (Some (contents_of self.old.files (chars name.now))) duty) × (faults ≡ 0)) }
+        ensures given { OnOk result (Some (sure_told self.new)
+            ≡ Some (told_giving (chars name.now) duty (sure_told self.old))) }
+        ensures fresh { let faults : ℕ = 0 in IfOk result (λ eye.
+            (eye ≡ fresh_sight (Some (contents_of self.old.files (chars name.now))) duty)
+            × (faults ≡ 0)) }
         ensures failed { IsErrOf result FilesError.Failed
-            → Some (sure_told self.new) ≡ Some (told_asking (record { name = chars name.now; duty = duty } ∷ []) (sure_told self.old)) }
-        ensures memory { IsErrOf result FilesError.Memory → (Some (sure_told self.new) ≡ Some (sure_told self.old))
-            ⊎ (Some (sure_told self.new) ≡ Some (told_asking (record { name = chars name.now; duty = duty } ∷ []) (sure_told self.old))) }
+            → Some (sure_told self.new) ≡ Some
+            (told_asking (record { name = chars name.now; duty = duty } ∷ [])
+            (sure_told self.old)) }
+        ensures memory { IsErrOf result FilesError.Memory
+            → (Some (sure_told self.new) ≡ Some (sure_told self.old))
+            ⊎ (Some (sure_told self.new) ≡ Some
+            (told_asking (record { name = chars name.now; duty = duty } ∷ [])
+            (sure_told self.old))) }
         ensures totals { self.new.totals ≡ self.old.totals }
         ensures later { 0 ≤ 0 }
+        ensures quiet { let faults : ℕ = 0 in OnOk result (faults ≡ faults) }
         ensures cause { IsErrOf result FilesError.Failed → Rose 0 0 }
 
         // The only refusal is want of memory, and what the files are then.
         ensures sure { OnErr result (IsErrOf result FilesError.Memory) }
         ensures lent { OnOk result (self.new ≡ sure_lending self.old (chars name.now) duty) }
-        ensures wanting { OnErr result ((self.new ≡ self.old) ⊎ (self.new ≡ sure_asked self.old (chars name.now) duty)) }
+        ensures wanting { OnErr result ((self.new ≡ self.old)
+            ⊎ (self.new ≡ sure_asked self.old (chars name.now) duty)) }
     {
         ask(&mut self.asked, self.alloc, name, duty)?;
         let bytes = contents(self.alloc, &self.files, name)?;

@@ -67,7 +67,8 @@ impl Sink for SureSink {
     fn put(&mut self, bytes: &[u8]) -> Result<usize, Failed>
         requires { 0 < length bytes.now }
         ensures bound { IfOk result (λ n. (0 < n) × (n ≤ length bytes.now)) }
-        ensures taken { IfOk result (λ n. Takes (sure_held self.old) (sure_held self.new) (take n bytes.now)) }
+        ensures taken { IfOk result (λ n.
+            Takes (sure_held self.old) (sure_held self.new) (take n bytes.now)) }
         ensures none { OnErr result (Takes (sure_held self.old) (sure_held self.new) []) }
         ensures cause { HasCause 0 0 result }
 
