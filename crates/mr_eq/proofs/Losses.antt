@@ -1,20 +1,18 @@
 -- What holds of a loss that is determined: its numbers are small, reading costs, and the survivors are a good set.
-use Rattle.std.proofs.Common.{◌≡◌, ℕ, ◌/◌, ◌^◌, ◌<◌, ◌≤◌, true, not, length, None, sym, ◌∙◌, arith, ap, subst}
-use Rattle.std.specs.Prelude.{slice_index}
-use Rattle.std.proofs.Math.Nat.{div-lt_iff_lt-mul}
-use Rattle.std.proofs.lemmas.List.{get_or-replicate}
+use Rattle.std.proofs.Common.{◌≡◌, ℕ, ◌^◌, ◌<◌, ◌≤◌, Bool, true, not, length, None, Some, arith, subst}
 use Rattle.std.proofs.Math.Pow.{pow_mono}
-use Rattle.std.proofs.lemmas.Bool.{not-false}
-use Rattle.mr_model.specs.Code.{Code, dimensions, code_of, has_equation, is_determined, undetermined, cost}
+use Rattle.std.proofs.lemmas.Bool.{not-true, not-false}
+use Rattle.mr_model.specs.Code.{Code, has_equation, is_determined, undetermined, cost}
 use Rattle.mr_model.specs.Search.{is_good}
 use Rattle.mr_model.proofs.Finding.{all_members-true, FindsMember, find_member-finds}
-use Rattle.mr_model.proofs.Prices.{IsPriced, IsPriced-code_of}
+use Rattle.mr_model.proofs.Apart.{leaves_open, get_or-in_columns}
 use Rattle.mr_model.proofs.CheapestLaws.{IsCost}
 use Rattle.mr_model.proofs.CostLaws.{price_law}
 use Rattle.mr_model.proofs.BoundedLaws.{within-refl}
 use Rattle.mr_model.proofs.SearchOf.{good-parts}
 use Rattle.mr_bits.specs.Matrices.{IsMatrixCode}
-use Rattle.mr_eq.specs.Problems.{Loss, IsLoss, search_for}
+use Rattle.mr_bits.proofs.MatrixLaws.{matrix-priced}
+use Rattle.mr_eq.specs.Problems.{Loss, IsLoss, IsUndetermined, search_for}
 
 -- where no target is undetermined, each is determined
 pub determined-from : (m : Code) (a targets : ℕ) → undetermined m a targets ≡ None → is_determined m a targets ≡ true
@@ -22,24 +20,25 @@ determined-from m a targets e =
     let none : FindsMember targets (λ t. not (has_equation m a t)) None = subst (λ o. FindsMember targets (λ t. not (has_equation m a t)) o) e (find_member-finds targets (λ t. not (has_equation m a t))) in
     all_members-true targets (has_equation m a) (λ t member. not-false (has_equation m a t) (none t member))
 
+-- the least target that has no equation is one that the survivors do not tell
+pub undetermined-is : (m : Code) → IsMatrixCode m → (a targets t : ℕ) → undetermined m a targets ≡ Some t
+    → IsUndetermined m a targets t
+undetermined-is m code a targets t e =
+    let open_at : ℕ → Bool = λ i. not (has_equation m a i) in
+    let first = subst (λ o. FindsMember targets open_at o) e (find_member-finds targets open_at) in
+    record {
+      target = first.member;
+      lower = λ i low member. not-false (has_equation m a i) (first.least i low member);
+      leaves_open = λ size some. leaves_open m a (get_or-in_columns m.columns m.rows code.columns) t size some
+          (not-true (has_equation m a t) first.passes);
+    }
+
 -- a set of symbols is below 2 ^ 128
 pub symbols-small : (m : Code) (x : ℕ) → IsMatrixCode m → x < 2 ^ length m.rows → x < 2 ^ 128
 symbols-small m x h low =
     let few : length m.rows ≤ 128 = omega (arith, h.count, h.shape.few_symbols) in
     let power : 2 ^ length m.rows ≤ 2 ^ 128 = pow_mono few in
     omega (arith, low, power)
-
-pub matrix-priced : (m : Code) → IsMatrixCode m → IsPriced m
-matrix-priced m h =
-    let same : code_of (dimensions m) m.rows ≡ m = λ i. record { devices = m.devices; symbols_per_device = m.symbols_per_device; columns = m.columns; rows = m.rows; prices = sym h.prices i } in
-    subst (λ (n : Code). IsPriced n) same (IsPriced-code_of (dimensions m) m.rows h.shape.some_symbols h.count)
-
--- the price of each symbol of a matrix is 1
-pub matrix-ones : (m : Code) → IsMatrixCode m → (i : ℕ) → i < length m.rows → slice_index m.prices (i / m.symbols_per_device) ≡ 1
-matrix-ones m h i low =
-    let some : 0 < m.symbols_per_device = h.shape.some_symbols in
-    let device : i / m.symbols_per_device < m.devices = (div-lt_iff_lt-mul some).1 (omega (arith, low, h.count)) in
-    ap (λ ps. slice_index ps (i / m.symbols_per_device)) h.prices ∙ get_or-replicate {A = ℕ} m.devices (i / m.symbols_per_device) 1 0 device
 
 module _ (p : Loss) (h : IsLoss p) where
   pub avail-small : p.avail < 2 ^ 128

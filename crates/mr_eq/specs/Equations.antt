@@ -1,16 +1,31 @@
--- The equations of the targets of a loss, as lists, and the order in which one equation is better than another.
-use Rattle.std.specs.Prelude.{◌≡◌, ℕ, Bool, List, map, bit_xor, nat_lt, ◌==◌, ◌&&◌, ◌||◌}
-use Rattle.mr_model.specs.Sets.{count_subsets}
-use Rattle.mr_model.specs.Code.{is_null, kept_equation, nulls}
+-- The equations of the targets of a loss, as lists, and the order in which one equation is better
+-- than another.
+use Rattle.std.specs.Prelude.{◌≡◌, ℕ, ◌<◌, Bool, true, List, length, slice_index, map, bit_xor, nat_lt, ◌==◌, ◌&&◌, ◌||◌}
+use Rattle.mr_model.specs.Sets.{within, count_subsets}
+use Rattle.mr_model.specs.Code.{is_equation, is_null, kept_equation, nulls}
 use Rattle.mr_eq.specs.Problems.{Loss, IsLoss, target_at}
 
 -- how many sets of survivors have the sum zero, which is how many equations each target has
 abbrev pub width_of : Loss → ℕ
 width_of p = count_subsets p.avail (is_null p.code)
 
--- the equations of the target of a level: the one within the kept survivors, XORed with each set of sum zero
+-- the equations of the target of a level: the one within the kept survivors, XORed with each set of
+-- sum zero
 unfoldable pub equations_at : Loss → ℕ → List ℕ
-equations_at p level = map (λ z. bit_xor z (kept_equation p.code p.avail (target_at p level))) (nulls p.code p.avail)
+equations_at p level =
+    map (λ z. bit_xor z (kept_equation p.code p.avail (target_at p level))) (nulls p.code p.avail)
+
+-- x is an equation of the target of a level among the survivors
+pub record IsEquationAt (p : Loss) (level x : ℕ) : Type 0 where
+  pub inside : within x p.avail ≡ true
+  pub equation : is_equation p.code (target_at p level) x ≡ true
+
+-- x stands in the list at one place, and at no other
+pub record StandsOnce (xs : List ℕ) (x : ℕ) : Type 0 where
+  pub place : ℕ
+  pub in_range : place < length xs
+  pub item : slice_index xs place ≡ x
+  pub only : (k : ℕ) → k < length xs → slice_index xs k ≡ x → k ≡ place
 
 -- x is cheaper than y, or as cheap and the lesser number
 unfoldable pub is_better : (ℕ → ℕ) → ℕ → ℕ → Bool

@@ -1,10 +1,10 @@
-ghost use Rattle.std.specs.Prelude.{◌≡◌, ℕ, ◌^◌, ◌<◌, ◌≤◌, ◌&&◌, length, slice_index, count_ones, nat_lt, IfOk, IfErr, OnOk, if◌then◌else◌};
-ghost use Rattle.mr_model.specs.Sets.{within, often};
+ghost use Rattle.std.specs.Prelude.{◌≡◌, ℕ, ◌^◌, ◌<◌, ◌≤◌, length, slice_index, count_ones, nat_lt, IfOk, IfErr, OnOk, if◌then◌else◌};
 ghost use Rattle.mr_model.specs.Members.{members};
 ghost use Rattle.mr_model.specs.Code.{cost, dropped, is_equation};
 ghost use Rattle.mr_model.specs.Search.{cheapest_within};
+ghost use Rattle.mr_bits.specs.Matrices.{greatest_cost};
 ghost use Rattle.mr_eq.specs.Problems.{Loss, IsLoss, target_at};
-ghost use Rattle.mr_eq.specs.Equations.{width_of, equations_at, is_better};
+ghost use Rattle.mr_eq.specs.Equations.{IsEquationAt, StandsOnce, width_of, equations_at, is_better};
 
 use crate::problems::Problem;
 use mr_bits::Mask;
@@ -12,8 +12,9 @@ use mr_null::{Nulls, NullsError};
 use std::alloc::Global;
 use std::marker::Model;
 
-/// The equations of the targets of a problem. Those of one target are its equation within the kept survivors,
-/// XORed with each set of survivors whose sum is zero, so each target has as many of them.
+/// The equations of the targets of a problem. Those of one target are its equation within the kept
+/// survivors, XORed with each set of survivors whose sum is zero, so each target has as many of
+/// them.
 #[derive(Drop)]
 pub struct Equations {
     problem: Problem,
@@ -34,13 +35,15 @@ impl Model for Equations {
 impl Equations {
     /// The equations of the targets of `problem`, where each target has at most `most`.
     ///
-    /// It answers `TooMany` with the `d` of the problem exactly where 2 to the power of `d` is above `most`, and otherwise
-    /// `Memory` where the allocator refused.
+    /// It answers `TooMany` with the `d` of the problem exactly where 2 to the power of `d` is
+    /// above `most`, and otherwise `Memory` where the allocator refused.
     pub fn of(alloc: Global, problem: &Problem, most: u32) -> Result<Equations, NullsError>
         ensures problem { IfOk result (λ e. e ≡ problem.now) }
-        ensures few { OnOk result (2 ^ count_ones (dropped problem.now.code problem.now.avail) ≤ most) }
-        ensures too_many { IfErr result (λ e. let d = count_ones (dropped problem.now.code problem.now.avail) in
-            e ≡ (if nat_lt most (2 ^ d) then NullsError.TooMany d else NullsError.Memory)) }
+        ensures few { let d = count_ones (dropped problem.now.code problem.now.avail) in
+            OnOk result (2 ^ d ≤ most) }
+        ensures too_many { let d = count_ones (dropped problem.now.code problem.now.avail) in
+            IfErr result (λ e. e ≡
+            (if nat_lt most (2 ^ d) then NullsError.TooMany d else NullsError.Memory)) }
     {
         let nulls = problem.nulls(alloc, most)?;
         Ok(Equations {
@@ -58,27 +61,30 @@ impl Equations {
         self.nulls.len()
     }
 
-    /// An equation of the target of a level. Over all indexes it is each equation of that target once.
+    /// An equation of the target of a level. Each equation of that target stands at one index, and
+    /// at no other.
     pub fn get(&self, level: u8, index: u32) -> Mask
         requires level { level < length (members self.now.targets) }
         requires index { index < width_of self.now }
         ensures value { result ≡ slice_index (equations_at self.now level) index }
         ensures many { length (equations_at self.now level) ≡ width_of self.now }
-        ensures each_once { (x : ℕ) → often (equations_at self.now level) x
-            ≡ (if within x self.now.avail && is_equation self.now.code (target_at self.now level) x then 1 else 0) }
+        ensures equation { IsEquationAt self.now level result }
+        ensures each_once { (x : ℕ) → IsEquationAt self.now level x
+            → StandsOnce (equations_at self.now level) x }
     {
         self.nulls.get(index).xor(self.problem.base(level))
     }
 
-    /// What it costs to read the symbols of `set`.
+    /// What it costs to read the symbols of `set`: the sum of their prices, at most 128,000.
     pub fn cost(&self, set: Mask) -> u32
-        requires { set < 2 ^ length self.now.code.rows }
-        ensures { result ≡ cost self.now.code set }
+        ensures cost { result ≡ cost self.now.code set }
+        ensures few { result ≤ greatest_cost }
     {
         self.problem.cost(set)
     }
 
-    /// The least equation of the target of a level by cost, and of those of equal cost the least by its number.
+    /// The least equation of the target of a level by cost, and of those of equal cost the least by
+    /// its number.
     pub fn least(&self, level: u8) -> Mask
         requires { level < length (members self.now.targets) }
         ensures { result ≡ cheapest_within self.now.avail (cost self.now.code)
@@ -97,8 +103,6 @@ impl Equations {
 
     /// Whether `x` is cheaper than `y`, or as cheap and the lesser number.
     fn is_better(&self, x: Mask, y: Mask) -> bool
-        requires x { x < 2 ^ length self.now.code.rows }
-        requires y { y < 2 ^ length self.now.code.rows }
         ensures { result ≡ is_better (cost self.now.code) x y }
     {
         let (this, other) = (self.cost(x), self.cost(y));

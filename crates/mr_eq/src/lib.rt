@@ -1,9 +1,11 @@
-//! Problems and their equations: which targets are lost, which symbols survive, and the sets of survivors whose XOR a target is.
+//! Problems and their equations: which targets are lost, which symbols survive, and the sets of
+//! survivors whose XOR a target is.
 #![tactic(auto)]
 
 mod equations;
 mod found;
 pub mod laws;
+mod planes;
 mod problems;
 mod singles;
 

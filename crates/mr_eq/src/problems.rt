@@ -1,8 +1,12 @@
-ghost use Rattle.std.specs.Prelude.{◌≡◌, ◌^◌, ◌<◌, ◌≤◌, length, bit_and, bit_or, count_ones, fold, nat_lt, IfOk, IfErr, OnOk, Some, if◌then◌else◌};
+ghost use Rattle.std.specs.Prelude.{◌≡◌, ℕ, ◌^◌, ◌<◌, ◌≤◌, length, bit_and, bit_or, count_ones, fold, nat_lt, IfOk, IfErr, OnOk, Some, true, if◌then◌else◌};
+ghost use Rattle.std.specs.Int.{bit_at};
 ghost use Rattle.mr_model.specs.Members.{members};
-ghost use Rattle.mr_model.specs.Code.{cost, dropped, kept_equation, nulls, plain, undetermined};
-ghost use Rattle.mr_eq.specs.Problems.{Loss, IsLoss, target_at, problem_of, base_list};
+ghost use Rattle.mr_model.specs.Code.{cost, dropped, has_equation, kept_equation, nulls, plain, undetermined};
+ghost use Rattle.mr_model.specs.Laws.{IsLean};
+ghost use Rattle.mr_bits.specs.Matrices.{greatest_cost};
+ghost use Rattle.mr_eq.specs.Problems.{Loss, IsLoss, IsUndetermined, target_at, problem_of, base_list};
 
+use crate::planes::{cost_by, planes_of};
 use arrayvec::ArrayVec;
 use mr_bits::{Mask, Matrix};
 use mr_null::{Basis, Nulls, NullsError};
@@ -18,8 +22,8 @@ pub struct Undetermined {
     pub symbol: u8,
 }
 
-/// A loss that is determined: a matrix, the symbols that survive, and the targets, each of which is the XOR of
-/// some of the survivors.
+/// A loss that is determined: a matrix, the symbols that survive, and the targets, each of which is
+/// the XOR of some of the survivors.
 ///
 /// The targets are counted upwards; the place of a target in that order is its level, from 0.
 #[derive(Drop)]
@@ -29,6 +33,7 @@ pub struct Problem {
     targets: Mask,
     kept: Mask,
     bases: ArrayVec<Mask, 128>,
+    planes: ArrayVec<Mask, 10>,
 }
 
 impl Model for Problem {
@@ -38,19 +43,26 @@ impl Model for Problem {
 
     ghost view = { λ p. record { code = p.matrix; avail = p.avail; targets = p.targets } };
 
-    ghost invariant = { λ p. IsProblem (record { code = p.matrix; avail = p.avail; targets = p.targets }) p.kept p.bases.items };
+    ghost invariant = { λ p.
+        IsProblem (record { code = p.matrix; avail = p.avail; targets = p.targets })
+        p.kept p.bases.items p.planes.items };
 }
 
 impl Problem {
-    /// The problem of reading the `targets` from the symbols `avail`. Both are sets of symbols of the matrix, with no
-    /// common member.
+    /// The problem of reading the `targets` from the symbols `avail`. Both are sets of symbols of
+    /// the matrix, with no common member.
     ///
-    /// It answers `Undetermined` exactly where a target has no equation within `avail`, and names the least such target.
+    /// It answers `Undetermined` exactly where a target has no equation within `avail`, and names
+    /// the least such target. Of that target there are two lists of data, of any size but 0, whose
+    /// codewords agree on `avail` and differ there, so no reading of the survivors could tell it.
     pub fn new(matrix: &Matrix, avail: Mask, targets: Mask) -> Result<Problem, Undetermined>
         requires avail_below { avail < 2 ^ length matrix.now.rows }
         requires targets_below { targets < 2 ^ length matrix.now.rows }
         requires apart { bit_and avail targets ≡ 0 }
-        ensures { result ≡ problem_of matrix.now avail targets }
+        ensures value { result ≡ problem_of matrix.now avail targets }
+        ensures accepted { IfOk result (λ _. (t : ℕ) → bit_at targets t ≡ 1
+            → has_equation matrix.now avail t ≡ true) }
+        ensures refused { IfErr result (λ e. IsUndetermined matrix.now avail targets e.symbol) }
     {
         let _within_limits = matrix.shape();
         let basis = Basis::of(matrix, avail);
@@ -61,6 +73,7 @@ impl Problem {
             targets,
             kept: basis.kept(),
             bases,
+            planes: planes_of(matrix),
         })
     }
 
@@ -87,9 +100,11 @@ impl Problem {
         self.avail.minus(self.kept).count()
     }
 
-    /// The union of the equations that the targets have within the kept survivors.
+    /// The union of the equations that the targets have within the kept survivors. The targets are
+    /// determined by it, its rows are independent, and it is the union of its recipes.
     pub fn plain(&self) -> Mask
-        ensures { result ≡ plain self.now.code self.now.avail self.now.targets }
+        ensures value { result ≡ plain self.now.code self.now.avail self.now.targets }
+        ensures lean { IsLean self.now.code self.now.avail self.now.targets result }
     {
         union_of(&self.bases)
     }
@@ -102,27 +117,27 @@ impl Problem {
         self.bases[usize::from(level)]
     }
 
-    /// What it costs to read the symbols of `set`.
+    /// What it costs to read the symbols of `set`: the sum of their prices, at most 128,000.
     pub fn cost(&self, set: Mask) -> u32
-        requires { set < 2 ^ length self.now.code.rows }
-        ensures { result ≡ cost self.now.code set }
+        ensures cost { result ≡ cost self.now.code set }
+        ensures few { result ≤ greatest_cost }
     {
-        let _prices_of_1 = &self.matrix;
-        set.count()
+        cost_by(&self.planes, set)
     }
 
     /// The sets of survivors whose sum is zero, where they are at most `most`.
     pub(crate) fn nulls(&self, alloc: Global, most: u32) -> Result<Nulls, NullsError>
         ensures list { IfOk result (λ n. n ≡ nulls self.now.code self.now.avail) }
         ensures few { OnOk result (2 ^ count_ones (dropped self.now.code self.now.avail) ≤ most) }
-        ensures too_many { IfErr result (λ e. let d = count_ones (dropped self.now.code self.now.avail) in
-            e ≡ (if nat_lt most (2 ^ d) then NullsError.TooMany d else NullsError.Memory)) }
+        ensures too_many { let d = count_ones (dropped self.now.code self.now.avail) in
+            IfErr result (λ e. e ≡
+            (if nat_lt most (2 ^ d) then NullsError.TooMany d else NullsError.Memory)) }
     {
         Basis::of(&self.matrix, self.avail).nulls(alloc, most)
     }
 
     /// The same problem again.
-    pub(crate) fn copy(&self) -> Problem
+    pub fn copy(&self) -> Problem
         ensures { result ≡ self.now }
     {
         Problem {
@@ -131,6 +146,7 @@ impl Problem {
             targets: self.targets,
             kept: self.kept,
             bases: copy_of(&self.bases),
+            planes: planes_of(&self.matrix),
         }
     }
 }
@@ -155,7 +171,8 @@ fn union_of(sets: &[Mask]) -> Mask
         .fold(Mask::EMPTY, |union, set| union.union(*set))
 }
 
-/// The equation of each target within the kept symbols of the basis, by level, or the least target that has none.
+/// The equation of each target within the kept symbols of the basis, by level, or the least target
+/// that has none.
 fn bases_of(
     matrix: &Matrix,
     basis: &Basis,
@@ -163,9 +180,12 @@ fn bases_of(
 ) -> Result<ArrayVec<Mask, 128>, Undetermined>
     requires same { basis.now.code ≡ matrix.now }
     requires targets_below { targets < 2 ^ length matrix.now.rows }
-    ensures bases { IfOk result (λ bases. bases.items ≡ base_list matrix.now basis.now.set targets) }
-    ensures determined { IfOk result (λ _. undetermined matrix.now basis.now.set targets ≡ None) }
-    ensures least { IfErr result (λ e. undetermined matrix.now basis.now.set targets ≡ Some e.symbol) }
+    ensures bases { IfOk result (λ bases.
+        bases.items ≡ base_list matrix.now basis.now.set targets) }
+    ensures determined { IfOk result (λ _.
+        undetermined matrix.now basis.now.set targets ≡ None) }
+    ensures least { IfErr result (λ e.
+        undetermined matrix.now basis.now.set targets ≡ Some e.symbol) }
 {
     let mut bases = ArrayVec::new();
     for symbol in targets.symbols() {

@@ -11,7 +11,7 @@ use Rattle.mr_model.proofs.SumLaws.{xor-zero, zero-xor, xor-swap, pick, pick-xor
 use Rattle.mr_model.proofs.Kept.{row_sum-none, row_sum-xor, combination-is, combination-none}
 use Rattle.mr_null.specs.declared.pivots.Pivot.{Pivot}
 use Rattle.mr_null.specs.declared.pivots.Combined.{Combined}
-use Rattle.mr_null.specs.Elimination.{step, left, IsPivot, IsElimination}
+use Rattle.mr_null.specs.Elimination.{step, remainder, IsPivot, IsElimination}
 
 -- ---- one step
 
@@ -45,29 +45,29 @@ fold-sum : (ps : List Pivot) (c d : Combined) → c.sum ≡ d.sum → (fold step
 fold-sum [] c d e = e
 fold-sum (p ∷ ps) c d e = fold-sum ps (step c p) (step d p) (step-sum c p ∙ ap (λ v. stepped v p) e ∙ sym (step-sum d p))
 
-pub fold-left : (ps : List Pivot) (c : Combined) → (fold step c ps).sum ≡ left ps c.sum
-unfolding left
-fold-left ps c = fold-sum ps c (record { sum = c.sum; members = 0 }) refl
+pub fold-remainder : (ps : List Pivot) (c : Combined) → (fold step c ps).sum ≡ remainder ps c.sum
+unfolding remainder
+fold-remainder ps c = fold-sum ps c (record { sum = c.sum; members = 0 }) refl
 
-left-cons : (p : Pivot) (ps : List Pivot) (v : ℕ) → left (p ∷ ps) v ≡ left ps (stepped v p)
-unfolding left
-left-cons p ps v = fold-sum ps (step (record { sum = v; members = 0 }) p) (record { sum = stepped v p; members = 0 }) (step-sum (record { sum = v; members = 0 }) p)
+remainder-cons : (p : Pivot) (ps : List Pivot) (v : ℕ) → remainder (p ∷ ps) v ≡ remainder ps (stepped v p)
+unfolding remainder
+remainder-cons p ps v = fold-sum ps (step (record { sum = v; members = 0 }) p) (record { sum = stepped v p; members = 0 }) (step-sum (record { sum = v; members = 0 }) p)
 
-pub left-nil : (v : ℕ) → left [] v ≡ v
-unfolding left
-left-nil v = refl
+pub remainder-nil : (v : ℕ) → remainder [] v ≡ v
+unfolding remainder
+remainder-nil v = refl
 
 -- what is left is linear in the sum
-pub left-xor : (ps : List Pivot) (v w : ℕ) → left ps (bit_xor v w) ≡ bit_xor (left ps v) (left ps w)
-left-xor [] v w = left-nil (bit_xor v w) ∙ ap₂ bit_xor (sym (left-nil v)) (sym (left-nil w))
-left-xor (p ∷ ps) v w =
-    left-cons p ps (bit_xor v w) ∙ ap (left ps) (stepped-xor v w p) ∙ left-xor ps (stepped v p) (stepped w p)
-    ∙ ap₂ bit_xor (sym (left-cons p ps v)) (sym (left-cons p ps w))
+pub remainder-xor : (ps : List Pivot) (v w : ℕ) → remainder ps (bit_xor v w) ≡ bit_xor (remainder ps v) (remainder ps w)
+remainder-xor [] v w = remainder-nil (bit_xor v w) ∙ ap₂ bit_xor (sym (remainder-nil v)) (sym (remainder-nil w))
+remainder-xor (p ∷ ps) v w =
+    remainder-cons p ps (bit_xor v w) ∙ ap (remainder ps) (stepped-xor v w p) ∙ remainder-xor ps (stepped v p) (stepped w p)
+    ∙ ap₂ bit_xor (sym (remainder-cons p ps v)) (sym (remainder-cons p ps w))
 
 -- one more pivot, at the end
-pub left-append : (ps : List Pivot) (p : Pivot) (v : ℕ) → left (ps ++ p ∷ []) v ≡ stepped (left ps v) p
-left-append [] p v = left-cons p [] v ∙ left-nil (stepped v p) ∙ ap (λ u. stepped u p) (sym (left-nil v))
-left-append (q ∷ ps) p v = left-cons q (ps ++ p ∷ []) v ∙ left-append ps p (stepped v q) ∙ ap (λ u. stepped u p) (sym (left-cons q ps v))
+pub remainder-append : (ps : List Pivot) (p : Pivot) (v : ℕ) → remainder (ps ++ p ∷ []) v ≡ stepped (remainder ps v) p
+remainder-append [] p v = remainder-cons p [] v ∙ remainder-nil (stepped v p) ∙ ap (λ u. stepped u p) (sym (remainder-nil v))
+remainder-append (q ∷ ps) p v = remainder-cons q (ps ++ p ∷ []) v ∙ remainder-append ps p (stepped v q) ∙ ap (λ u. stepped u p) (sym (remainder-cons q ps v))
 
 -- a pivot clears itself, and leaves nothing of nothing
 pub stepped-self : (p : Pivot) → bit_at p.combined.sum p.column ≡ 1 → stepped p.combined.sum p ≡ 0
@@ -124,7 +124,7 @@ module _ (m : Code) where
 
   combined-none : (a k v : ℕ) (ps : List Pivot) → IsElimination m a k ps → ((fold step (unmarked v) ps).sum ≡ 0 → ⊥) → combination m a v ≡ None
   combined-none a k v ps h apart = combination-none m a v (λ x inside e.
-      apart (fold-left ps (unmarked v) ∙ ap (left ps) (sym e) ∙ h.spans x (within-true x a inside)))
+      apart (fold-remainder ps (unmarked v) ∙ ap (remainder ps) (sym e) ∙ h.spans x (within-true x a inside)))
 
   combined-some : (a k v : ℕ) (ps : List Pivot) → IsElimination m a k ps → k ≡ kept m a → (fold step (unmarked v) ps).sum ≡ 0 → combination m a v ≡ Some (fold step (unmarked v) ps).members
   combined-some a k v ps h is none =

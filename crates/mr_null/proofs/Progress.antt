@@ -12,8 +12,8 @@ use Rattle.mr_model.proofs.Loops.{IsRest, IsRest-all, IsRest-none, IsTurn}
 use Rattle.mr_model.proofs.Kept.{row_sum-none, row_sum-xor, row_sum-single, has_equation-from, has_equation-find, kept-within, kept-in, kept-out}
 use Rattle.mr_null.specs.declared.pivots.Pivot.{Pivot}
 use Rattle.mr_null.specs.declared.pivots.Combined.{Combined}
-use Rattle.mr_null.specs.Elimination.{step, left, IsPivot, IsElimination}
-use Rattle.mr_null.proofs.EliminationLaws.{fold-left, fold-difference, fold-within, left-xor, left-nil, left-append, stepped, stepped-self, stepped-none}
+use Rattle.mr_null.specs.Elimination.{step, remainder, IsPivot, IsElimination}
+use Rattle.mr_null.proofs.EliminationLaws.{fold-remainder, fold-difference, fold-within, remainder-xor, remainder-nil, remainder-append, stepped, stepped-self, stepped-none}
 
 pub none-or : (x : ℕ) → bit_or 0 x ≡ x
 none-or x = same_from_bits _ _ (λ i. omega (arith, bit_at_or 0 x i, bit_at-zero i))
@@ -26,8 +26,8 @@ module _ (m : Code) where
     pub few : length ps ≤ n
     pub elimination : IsElimination m (below n set) k ps
 
-  left-none : left [] 0 ≡ 0
-  left-none = left-nil 0
+  remainder-none : remainder [] 0 ≡ 0
+  remainder-none = remainder-nil 0
 
   pub IsProgress-start : (set : ℕ) → IsProgress set 0 set 0 []
   IsProgress-start set = record {
@@ -38,7 +38,7 @@ module _ (m : Code) where
       pivots_are = λ i d low. absurd (omega (arith, low));
       spans = λ x inside.
           let none : x ≡ 0 = Within-none x (subst (λ y. Within x y) (below-zero set) (true-within x (below 0 set) inside)) in
-          ap (left []) (ap (row_sum m) none ∙ row_sum-none m) ∙ left-none;
+          ap (remainder []) (ap (row_sum m) none ∙ row_sum-none m) ∙ remainder-none;
     };
   }
 
@@ -128,8 +128,8 @@ module _ (m : Code) where
         elimination = record {
           pivots_are = h.elimination.pivots_are;
           spans = λ x within_x. let small = true-within x (below (t + 1) set) within_x in ⊎_elim
-              (λ member. ap (left ps) (sum-with x t) ∙ left-xor ps (row_sum m (bit_xor x (2 ^ t))) (row m t)
-              ∙ ap₂ bit_xor (h.elimination.spans (bit_xor x (2 ^ t)) (within-true _ _ (subset-with set n t s x turn small member))) (sym (fold-left ps (marked t)) ∙ none)
+              (λ member. ap (remainder ps) (sum-with x t) ∙ remainder-xor ps (row_sum m (bit_xor x (2 ^ t))) (row m t)
+              ∙ ap₂ bit_xor (h.elimination.spans (bit_xor x (2 ^ t)) (within-true _ _ (subset-with set n t s x turn small member))) (sym (fold-remainder ps (marked t)) ∙ none)
               ∙ xor-zero 0)
               (λ out_x. h.elimination.spans x (within-true x (below n set) (subset-before set n t s x turn small out_x)))
               (bit_at_cases x t);
@@ -143,7 +143,7 @@ module _ (m : Code) where
   IsProgress-kept set n t s before k column ps h turn some here =
       let p : Pivot = record { column = column; combined = fold step (marked t) ps } in
       let free : has_equation m (below t set) t ≡ false = false_from_ne_true _ (λ e. let found = has_equation-find m (below t set) t e in
-      some (fold-left ps (marked t) ∙ ap (left ps) (sym found.sums)
+      some (fold-remainder ps (marked t) ∙ ap (remainder ps) (sym found.sums)
       ∙ h.elimination.spans found.set (within-true found.set (below n set) (subst (Within found.set) turn.nothing_between found.inside)))) in
       let member : bit_at (kept m set) t ≡ 1 = kept-in m set t turn.member free in
       let joined : below (t + 1) (kept m set) ≡ bit_or k (2 ^ t) = same_from_bits _ _ (λ i.
@@ -168,10 +168,10 @@ module _ (m : Code) where
             column = here;
           });
           spans = λ x within_x. let small = true-within x (below (t + 1) set) within_x in
-              left-append ps (record { column = column; combined = fold step (marked t) ps }) (row_sum m x) ∙ ⊎_elim
+              remainder-append ps (record { column = column; combined = fold step (marked t) ps }) (row_sum m x) ∙ ⊎_elim
               (λ member_x. ap (λ v. stepped v (record { column = column; combined = fold step (marked t) ps }))
-              (ap (left ps) (sum-with x t) ∙ left-xor ps (row_sum m (bit_xor x (2 ^ t))) (row m t)
-              ∙ ap₂ bit_xor (h.elimination.spans (bit_xor x (2 ^ t)) (within-true _ _ (subset-with set n t s x turn small member_x))) (sym (fold-left ps (marked t)))
+              (ap (remainder ps) (sum-with x t) ∙ remainder-xor ps (row_sum m (bit_xor x (2 ^ t))) (row m t)
+              ∙ ap₂ bit_xor (h.elimination.spans (bit_xor x (2 ^ t)) (within-true _ _ (subset-with set n t s x turn small member_x))) (sym (fold-remainder ps (marked t)))
               ∙ zero-xor (fold step (marked t) ps).sum)
               ∙ stepped-self (record { column = column; combined = fold step (marked t) ps }) here)
               (λ out_x. ap (λ v. stepped v (record { column = column; combined = fold step (marked t) ps })) (h.elimination.spans x (within-true x (below n set) (subset-before set n t s x turn small out_x)))

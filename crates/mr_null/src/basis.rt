@@ -12,8 +12,8 @@ use mr_bits::{Mask, Matrix};
 use std::alloc::Global;
 use std::marker::Model;
 
-/// A set of symbols of a matrix, worked through once: its members, taken upwards, are kept where their rows
-/// are no sums of rows kept before.
+/// A set of symbols of a matrix, worked through once: its members, taken upwards, are kept where
+/// their rows are no sums of rows kept before.
 #[derive(Drop)]
 pub struct Basis {
     matrix: Matrix,
@@ -92,7 +92,8 @@ impl Basis {
         self.set.minus(self.kept).count()
     }
 
-    /// The set of kept members whose rows add up to `target`. It is None exactly where no subset of the set has that sum.
+    /// The set of kept members whose rows add up to `target`. It is None exactly where no subset of
+    /// the set has that sum.
     pub fn combination(&self, target: Mask) -> Option<Mask>
         ensures { result ≡ combination self.now.code self.now.set target }
     {
@@ -108,12 +109,14 @@ impl Basis {
 impl Basis {
     /// All subsets of the set whose rows add up to nothing, 2 to the power of `d` in number.
     ///
-    /// Let the members not kept be f_0, f_1 and so on, upwards, and let g_i be f_i together with the combination of
-    /// its row. Then item `x` of the list is the XOR of the g_i for the ones `i` of `x`. It answers `TooMany`
-    /// exactly where there are more than `most`, and `Memory` where the allocator refuses.
+    /// Let the members not kept be f_0, f_1 and so on, upwards, and let g_i be f_i together with
+    /// the combination of its row. Then item `x` of the list is the XOR of the g_i for the ones `i`
+    /// of `x`. It answers `TooMany` exactly where there are more than `most`, and `Memory` where
+    /// the allocator refuses.
     pub fn nulls(&self, alloc: Global, most: u32) -> Result<Nulls, NullsError>
         ensures list { IfOk result (λ n. n ≡ nulls self.now.code self.now.set) }
-        ensures each_once { IfOk result (λ n. (x : ℕ) → often n x ≡ (if within x self.now.set && is_null self.now.code x then 1 else 0)) }
+        ensures each_once { IfOk result (λ n. (x : ℕ) → often n x ≡
+            (if within x self.now.set && is_null self.now.code x then 1 else 0)) }
         ensures few { OnOk result (2 ^ count_ones (dropped self.now.code self.now.set) ≤ most) }
         ensures too_many { let d = count_ones (dropped self.now.code self.now.set) in
             IfErr result (λ e. e ≡ (if nat_lt most (2 ^ d) then TooMany d else Memory)) }

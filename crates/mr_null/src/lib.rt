@@ -1,5 +1,5 @@
-//! Elimination over sets of symbols: which members of a set are kept, the one set of kept members with a
-//! given sum, and all subsets of sum zero.
+//! Elimination over sets of symbols: which members of a set are kept, the one set of kept members
+//! with a given sum, and all subsets of sum zero.
 #![tactic(auto)]
 
 mod basis;

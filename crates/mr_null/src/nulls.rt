@@ -91,7 +91,8 @@ pub(crate) fn only_empty(alloc: Global) -> Result<Vec<Mask>, AllocError>
 /// Appends the XOR of each set of the list with `generator`.
 pub(crate) fn double(masks: &mut Vec<Mask>, generator: Mask) -> Result<(), AllocError>
     requires { length masks.old.items < 2 ^ 32 }
-    ensures { OnOk result (masks.new.items ≡ masks.old.items ++ map (λ v. bit_xor v generator) masks.old.items) }
+    ensures { OnOk result (masks.new.items ≡
+        masks.old.items ++ map (λ v. bit_xor v generator) masks.old.items) }
 {
     for index in 0..masks.len() {
         let turned = masks[index].xor(generator);

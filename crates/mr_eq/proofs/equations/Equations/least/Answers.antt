@@ -1,24 +1,10 @@
-use Rattle.std.proofs.Common.{◌≡◌, ◌+◌, ◌^◌, ◌<◌, length, ap, subst, sym, ◌∙◌, arith, pow_pos}
+use Rattle.std.proofs.Common.{◌≡◌, ◌+◌, ◌^◌, ◌<◌, ap, subst, sym, ◌∙◌, arith, pow_pos}
 use Rattle.std.specs.Prelude.{count_ones}
 use Rattle.mr_model.specs.Code.{cost, dropped}
 use Rattle.mr_eq.specs.Equations.{width_of, equations_at, is_better}
-use Rattle.mr_eq.proofs.EquationLists.{equation-below}
 use Rattle.mr_eq.proofs.LeastLaws.{IsLeastOf, least-keeps, least-takes, least-cheapest}
 use Rattle.mr_eq.proofs.equations.Equations.least.Goals as goal
 use Rattle.mr_eq.proofs.equations.Equations.least.Goals.{then-is_better, else-is_better}
-
-pub is_better-requires-clause-x : goal.is_better-requires-clause-x
-is_better-requires-clause-x c =
-    let p = c.args.self.now in
-    subst (λ x. x < 2 ^ length p.code.rows) (sym c.get-other.ensures.value)
-    (equation-below p c.width-width.ensures.loss c.args.level c.requires c.loop-index.index (omega (arith, c.loop-index-test.true, c.width-width.ensures.width)))
-
-pub is_better-requires-clause-y : goal.is_better-requires-clause-y
-is_better-requires-clause-y c =
-    let p = c.args.self.now in
-    let w = c.loop-index.invariant in
-    subst (λ x. x < 2 ^ length p.code.rows) w.item
-    (equation-below p c.width-width.ensures.loss c.args.level c.requires w.place (omega (arith, w.in_range, c.loop-index-test.true, c.width-width.ensures.width)))
 
 pub loop-index-preserved : goal.loop-index-preserved
 loop-index-preserved c =
