@@ -7,6 +7,7 @@ use Rattle.std.proofs.lemmas.List.Folds.{drop_split}
 use Rattle.std.proofs.lemmas.List.Concat.{flat_map-append}
 use Rattle.std.proofs.lemmas.List.Elements.{filter-append}
 use Rattle.std.proofs.lemmas.Bool.{le-leb, lt-leb}
+use Rattle.mr_eq.specs.Problems.{Loss}
 use Rattle.mr_front.specs.Waiting.{mask_cost}
 use Rattle.mr_front.specs.Children.{AppendsPrefix}
 
@@ -15,45 +16,60 @@ map-append f [] ys = refl
 map-append f (x ∷ xs) ys = ap (λ (vs : List ℕ). f x ∷ vs) (map-append f xs ys)
 
 -- the children of v by the first equations of a list
-abbrev pub kept_unions : ℕ → ℕ → List ℕ → List ℕ
-kept_unions v bound es = filter (λ u. nat_le (mask_cost u) bound) (map (bit_or v) es)
+abbrev pub kept_unions : Loss → ℕ → ℕ → List ℕ → List ℕ
+kept_unions p v bound es = filter (λ u. nat_le (mask_cost p u) bound) (map (bit_or v) es)
 
-unions-append : (v bound : ℕ) (xs ys : List ℕ) → kept_unions v bound (xs ++ ys) ≡ kept_unions v bound xs ++ kept_unions v bound ys
-unions-append v bound xs ys = ap (filter (λ u. nat_le (mask_cost u) bound)) (map-append (bit_or v) xs ys) ∙ filter-append (λ u. nat_le (mask_cost u) bound) (map (bit_or v) xs) (map (bit_or v) ys)
+unions-append : (p : Loss) (v bound : ℕ) (xs ys : List ℕ) → kept_unions p v bound (xs ++ ys) ≡ kept_unions p v bound xs ++ kept_unions p v bound ys
+unions-append p v bound xs ys = ap (filter (λ u. nat_le (mask_cost p u) bound)) (map-append (bit_or v) xs ys) ∙ filter-append (λ u. nat_le (mask_cost p u) bound) (map (bit_or v) xs) (map (bit_or v) ys)
 
-module _ (v bound : ℕ) (es : List ℕ) (old now : List ℕ) (i x : ℕ) (low : i < length es) (item : x ≡ get_or es i 0)
-    (done : now ≡ old ++ kept_unions v bound (take i es)) where
-  next-unions : kept_unions v bound (take (suc i) es) ≡ kept_unions v bound (take i es) ++ kept_unions v bound (x ∷ [])
-  next-unions = ap (kept_unions v bound) (take-suc es i 0 low ∙ ap (λ y. take i es ++ y ∷ []) (sym item)) ∙ unions-append v bound (take i es) (x ∷ [])
+-- the children by one more equation
+module _ (p : Loss) (v bound : ℕ) (es : List ℕ) (i n x : ℕ) (low : i < length es) (item : x ≡ get_or es i 0) (next : n ≡ suc i) where
+  one-more : kept_unions p v bound (take n es) ≡ kept_unions p v bound (take i es) ++ kept_unions p v bound (x ∷ [])
+  one-more =
+      ap (λ m. kept_unions p v bound (take m es)) next
+      ∙ ap (kept_unions p v bound) (take-suc es i 0 low ∙ ap (λ y. take i es ++ y ∷ []) (sym item)) ∙ unions-append p v bound (take i es) (x ∷ [])
+
+  pub kept-more : mask_cost p (bit_or v x) ≤ bound → kept_unions p v bound (take n es) ≡ kept_unions p v bound (take i es) ++ bit_or v x ∷ []
+  kept-more few = one-more ∙ ap (λ b. kept_unions p v bound (take i es) ++ cond b (bit_or v x ∷ []) []) (le-leb (mask_cost p (bit_or v x)) bound few)
+
+  pub kept-same : bound < mask_cost p (bit_or v x) → kept_unions p v bound (take n es) ≡ kept_unions p v bound (take i es)
+  kept-same many =
+      one-more ∙ ap (λ b. kept_unions p v bound (take i es) ++ cond b (bit_or v x ∷ []) []) (lt-leb (mask_cost p (bit_or v x)) bound many)
+      ∙ append-nil (kept_unions p v bound (take i es))
+
+module _ (p : Loss) (v bound : ℕ) (es : List ℕ) (old now : List ℕ) (i x : ℕ) (low : i < length es) (item : x ≡ get_or es i 0)
+    (done : now ≡ old ++ kept_unions p v bound (take i es)) where
+  next-unions : kept_unions p v bound (take (suc i) es) ≡ kept_unions p v bound (take i es) ++ kept_unions p v bound (x ∷ [])
+  next-unions = ap (kept_unions p v bound) (take-suc es i 0 low ∙ ap (λ y. take i es ++ y ∷ []) (sym item)) ∙ unions-append p v bound (take i es) (x ∷ [])
 
   -- one more union is kept
-  pub unions-keep : (n : ℕ) → n ≡ suc i → mask_cost (bit_or v x) ≤ bound → now ++ bit_or v x ∷ [] ≡ old ++ kept_unions v bound (take n es)
+  pub unions-keep : (n : ℕ) → n ≡ suc i → mask_cost p (bit_or v x) ≤ bound → now ++ bit_or v x ∷ [] ≡ old ++ kept_unions p v bound (take n es)
   unions-keep n e few =
       ap (λ (vs : List ℕ). vs ++ bit_or v x ∷ []) done
-      ∙ append_assoc old (kept_unions v bound (take i es)) (bit_or v x ∷ [])
-      ∙ ap (λ b. old ++ (kept_unions v bound (take i es) ++ cond b (bit_or v x ∷ []) [])) (sym (le-leb (mask_cost (bit_or v x)) bound few))
+      ∙ append_assoc old (kept_unions p v bound (take i es)) (bit_or v x ∷ [])
+      ∙ ap (λ b. old ++ (kept_unions p v bound (take i es) ++ cond b (bit_or v x ∷ []) [])) (sym (le-leb (mask_cost p (bit_or v x)) bound few))
       ∙ ap (λ (vs : List ℕ). old ++ vs) (sym next-unions)
-      ∙ ap (λ m. old ++ kept_unions v bound (take m es)) (sym e)
+      ∙ ap (λ m. old ++ kept_unions p v bound (take m es)) (sym e)
 
   -- one more union is above the bound
-  pub unions-drop : (n : ℕ) → n ≡ suc i → bound < mask_cost (bit_or v x) → now ≡ old ++ kept_unions v bound (take n es)
+  pub unions-drop : (n : ℕ) → n ≡ suc i → bound < mask_cost p (bit_or v x) → now ≡ old ++ kept_unions p v bound (take n es)
   unions-drop n e many =
-      done ∙ ap (λ (vs : List ℕ). old ++ vs) (sym (append-nil (kept_unions v bound (take i es))))
-      ∙ ap (λ b. old ++ (kept_unions v bound (take i es) ++ cond b (bit_or v x ∷ []) [])) (sym (lt-leb (mask_cost (bit_or v x)) bound many))
+      done ∙ ap (λ (vs : List ℕ). old ++ vs) (sym (append-nil (kept_unions p v bound (take i es))))
+      ∙ ap (λ b. old ++ (kept_unions p v bound (take i es) ++ cond b (bit_or v x ∷ []) [])) (sym (lt-leb (mask_cost p (bit_or v x)) bound many))
       ∙ ap (λ (vs : List ℕ). old ++ vs) (sym next-unions)
-      ∙ ap (λ m. old ++ kept_unions v bound (take m es)) (sym e)
+      ∙ ap (λ m. old ++ kept_unions p v bound (take m es)) (sym e)
 
 -- the unions so far are a first part of all
-pub unions-prefix : (v bound : ℕ) (es old now : List ℕ) (i : ℕ) → now ≡ old ++ kept_unions v bound (take i es) → AppendsPrefix old now (kept_unions v bound es)
-unions-prefix v bound es old now i done = record {
-  part = kept_unions v bound (take i es);
-  rest = kept_unions v bound (drop i es);
+pub unions-prefix : (p : Loss) (v bound : ℕ) (es old now : List ℕ) (i : ℕ) → now ≡ old ++ kept_unions p v bound (take i es) → AppendsPrefix old now (kept_unions p v bound es)
+unions-prefix p v bound es old now i done = record {
+  part = kept_unions p v bound (take i es);
+  rest = kept_unions p v bound (drop i es);
   appended = done;
-  first = ap (kept_unions v bound) (sym (take-append-drop i es)) ∙ unions-append v bound (take i es) (drop i es);
+  first = ap (kept_unions p v bound) (sym (take-append-drop i es)) ∙ unions-append p v bound (take i es) (drop i es);
 }
 
-pub unions-all : (v bound : ℕ) (es old now : List ℕ) (i : ℕ) → now ≡ old ++ kept_unions v bound (take i es) → length es ≤ i → now ≡ old ++ kept_unions v bound es
-unions-all v bound es old now i done «end» = done ∙ ap (λ (vs : List ℕ). old ++ kept_unions v bound vs) (take_all i es «end»)
+pub unions-all : (p : Loss) (v bound : ℕ) (es old now : List ℕ) (i : ℕ) → now ≡ old ++ kept_unions p v bound (take i es) → length es ≤ i → now ≡ old ++ kept_unions p v bound es
+unions-all p v bound es old now i done «end» = done ∙ ap (λ (vs : List ℕ). old ++ kept_unions p v bound vs) (take_all i es «end»)
 
 -- ---- the masks of a layer from one place up to another
 

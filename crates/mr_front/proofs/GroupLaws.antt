@@ -7,8 +7,7 @@ use Rattle.std.proofs.Math.ListN.{set, length-set}
 use Rattle.std.proofs.Math.Seq.{take-suc, take-suc-set, drop-cons}
 use Rattle.std.proofs.lemmas.List.{drop-set-lt, take_all}
 use Rattle.std.proofs.lemmas.List.Elements.{Contains-append_left, Contains-push, Contains-push_cases}
-use Rattle.mr_front.specs.declared.frontier.Frontier.{Frontier}
-use Rattle.mr_front.specs.Frontiers.{Waits, WaitsToo}
+use Rattle.mr_front.specs.Waiting.{WaitsToo}
 use Rattle.mr_front.specs.Groups.{InGroups, HasNone, HasGrouped, WaitsGroups}
 
 pub in-none : HasNone []
@@ -87,17 +86,17 @@ grouped-more old vs us k m v w before low is e u =
 
 -- ---- groups added to a frontier
 
-pub groups-start : (f : Frontier) (level : ℕ) → WaitsGroups f f level []
-groups-start f level i u = ((λ w. inl w), (λ w. ⊎_elim (λ (old : Waits f i u). old) (λ (new : (i ≡ level) × InGroups [] u). absurd (in-none u new.1)) w))
+pub groups-start : (f : ℕ → ℕ → Type 0) (level : ℕ) → WaitsGroups f f level []
+groups-start f level i u = ((λ w. inl w), (λ w. ⊎_elim (λ (old : f i u). old) (λ (new : (i ≡ level) × InGroups [] u). absurd (in-none u new.1)) w))
 
-pub groups-more : (f g h : Frontier) (level : ℕ) (vs : List (Vec ℕ)) (v : Vec ℕ) → WaitsGroups f g level vs → WaitsToo g h level v.items → WaitsGroups f h level (vs ++ v ∷ [])
+pub groups-more : (f g h : ℕ → ℕ → Type 0) (level : ℕ) (vs : List (Vec ℕ)) (v : Vec ℕ) → WaitsGroups f g level vs → WaitsToo g h level v.items → WaitsGroups f h level (vs ++ v ∷ [])
 groups-more f g h level vs v before too i u = (
   (λ w. ⊎_elim
-      (λ (mid : Waits g i u). ⊎_elim (λ (old : Waits f i u). inl old) (λ (new : (i ≡ level) × InGroups vs u). inr (new.0, push-in_old vs v u new.1)) ((before i u).0 mid))
+      (λ (mid : g i u). ⊎_elim (λ (old : f i u). inl old) (λ (new : (i ≡ level) × InGroups vs u). inr (new.0, push-in_old vs v u new.1)) ((before i u).0 mid))
       (λ (new : (i ≡ level) × Contains v.items u). inr (new.0, push-in_new vs v u new.1))
       ((too i u).0 w)),
   (λ w. ⊎_elim
-      (λ (old : Waits f i u). (too i u).1 (inl ((before i u).1 (inl old))))
+      (λ (old : f i u). (too i u).1 (inl ((before i u).1 (inl old))))
       (λ (new : (i ≡ level) × InGroups (vs ++ v ∷ []) u). ⊎_elim
       (λ (mid : InGroups vs u). (too i u).1 (inl ((before i u).1 (inr (new.0, mid)))))
       (λ (here : Contains v.items u). (too i u).1 (inr (new.0, here)))
@@ -106,16 +105,16 @@ groups-more f g h level vs v before too i u = (
 )
 
 -- what a loop over the groups knows at a place
-pub record IsAdding (old now : List (Vec ℕ)) (f g : Frontier) (level place : ℕ) : Type 0 where
+pub record IsAdding (old now : List (Vec ℕ)) (f g : ℕ → ℕ → Type 0) (level place : ℕ) : Type 0 where
   pub added : WaitsGroups f g level (take place old)
   pub none : HasNone (take place now)
   pub rest : drop place now ≡ drop place old
   pub room : length now ≡ length old
 
-pub adding-start : (vs : List (Vec ℕ)) (f : Frontier) (level : ℕ) → IsAdding vs vs f f level 0
+pub adding-start : (vs : List (Vec ℕ)) (f : ℕ → ℕ → Type 0) (level : ℕ) → IsAdding vs vs f f level 0
 adding-start vs f level = record { added = groups-start f level; none = in-none; rest = refl; room = refl }
 
-pub adding-more : (old now : List (Vec ℕ)) (f g h : Frontier) (level place next : ℕ) (v w : Vec ℕ) → next ≡ suc place → IsAdding old now f g level place → place < length now
+pub adding-more : (old now : List (Vec ℕ)) (f g h : ℕ → ℕ → Type 0) (level place next : ℕ) (v w : Vec ℕ) → next ≡ suc place → IsAdding old now f g level place → place < length now
     → v ≡ get_or now place v → w.items ≡ [] → WaitsToo g h level v.items → IsAdding old (set now place w) f h level next
 adding-more old now f g h level place next v w e a low is empty too = record {
   added = subst (λ (vs : List (Vec ℕ)). WaitsGroups f h level vs)
@@ -135,17 +134,17 @@ adding-more old now f g h level place next v w e a low is empty too = record {
     later : drop (suc place) now ≡ drop (suc place) old
     later = ap (drop 1) heads
 
-pub adding-all : (old now : List (Vec ℕ)) (f g : Frontier) (level place : ℕ) → IsAdding old now f g level place → length old ≤ place → WaitsGroups f g level old × HasNone now
+pub adding-all : (old now : List (Vec ℕ)) (f g : ℕ → ℕ → Type 0) (level place : ℕ) → IsAdding old now f g level place → length old ≤ place → WaitsGroups f g level old × HasNone now
 adding-all old now f g level place a «end» = (
   subst (λ (vs : List (Vec ℕ)). WaitsGroups f g level vs) (take_all place old «end») a.added,
   subst HasNone (take_all place now (omega (arith, «end», a.room))) a.none,
 )
 
 -- groups that were empty, filled with the masks, and added: these masks wait too
-pub groups-too : (f g : Frontier) (level : ℕ) (empty full : List (Vec ℕ)) (us : List ℕ) → HasNone empty → HasGrouped empty full us → WaitsGroups f g level full → WaitsToo f g level us
+pub groups-too : (f g : ℕ → ℕ → Type 0) (level : ℕ) (empty full : List (Vec ℕ)) (us : List ℕ) → HasNone empty → HasGrouped empty full us → WaitsGroups f g level full → WaitsToo f g level us
 groups-too f g level empty full us none grouped added i u = (
-  (λ w. ⊎_elim (λ (old : Waits f i u). inl old)
+  (λ w. ⊎_elim (λ (old : f i u). inl old)
       (λ (new : (i ≡ level) × InGroups full u). ⊎_elim (λ (no : InGroups empty u). absurd (none u no)) (λ (there : Contains us u). inr (new.0, there)) ((grouped u).0 new.1))
       ((added i u).0 w)),
-  (λ w. (added i u).1 (⊎_elim (λ (old : Waits f i u). inl old) (λ (new : (i ≡ level) × Contains us u). inr (new.0, (grouped u).1 (inr new.1))) w)),
+  (λ w. (added i u).1 (⊎_elim (λ (old : f i u). inl old) (λ (new : (i ≡ level) × Contains us u). inr (new.0, (grouped u).1 (inr new.1))) w)),
 )

@@ -14,3 +14,4 @@ pub mod UnionLaws
 pub mod LossSteps
 pub mod SearchAnswers
 pub mod GroupLaws
+pub mod FoundLaws

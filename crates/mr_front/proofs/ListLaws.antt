@@ -4,11 +4,13 @@ use Rattle.std.specs.Prelude.{◌==◌, ◌&&◌, filter, nat_lt}
 use Rattle.std.specs.List.{All, Contains}
 use Rattle.std.specs.Ordering.{nat_cmp, ordering_then, is_eq, is_gt}
 use Rattle.std.specs.declared.cmp.Ordering.TheVariants.{Less, Equal, Greater}
-use Rattle.std.specs.BTreeMap.{get, is_at}
+use Rattle.std.specs.BTreeMap.{IsOrdered, get, is_at}
 use Rattle.std.specs.Global.{Vec}
 use Rattle.std.specs.Cmp.{tied_then}
 use Rattle.std.proofs.lemmas.Bool.{and_parts, and_from, both_ways, eqb-true, eq-eqb, ne_eqb, lt-leb, cases_eq, cases_lt}
-use Rattle.mr_front.specs.Waiting.{mask_cost, Lists, key_cmp, items_of, masks_at, IsTidy, belongs, HasAdded}
+use Rattle.mr_eq.specs.Problems.{Loss}
+use Rattle.mr_front.specs.Waiting.{mask_cost}
+use Rattle.mr_front.specs.Lists.{Lists, key_cmp, items_of, masks_at, IsTidy, belongs, HasAdded}
 
 -- ---- keys
 
@@ -33,8 +35,8 @@ cmp-equal x y = ⊎_elim
 pub belongs-key : (c level : ℕ) (q : ℕ × ℕ) → is_at (key_cmp (c, level)) q ≡ ((c == q.0) && (level == q.1))
 belongs-key c level q = sym (tied_then (nat_cmp c q.0) (nat_cmp level q.1)) ∙ ap₂ (λ a b. a && b) (cmp-equal c q.0) (cmp-equal level q.1)
 
-pub belongs-own : (c level u : ℕ) → mask_cost u ≡ c → belongs level (c, level) u ≡ true
-belongs-own c level u e = and_from (mask_cost u == c) (level == level) (eq-eqb (mask_cost u) c e) (eq-eqb level level refl)
+pub belongs-own : (p : Loss) (c level u : ℕ) → mask_cost p u ≡ c → belongs p level (c, level) u ≡ true
+belongs-own p c level u e = and_from (mask_cost p u == c) (level == level) (eq-eqb (mask_cost p u) c e) (eq-eqb level level refl)
 
 pub key-same : (k q : ℕ × ℕ) → is_at (key_cmp k) q ≡ true → k ≡ q
 key-same (c, level) (d, l) e =
@@ -100,26 +102,26 @@ filter-none p [] h = refl
 filter-none p (u ∷ us) h = ap (λ b. cond b (u ∷ filter p us) (filter p us)) (h 0 (omega arith)) ∙ filter-none p us (λ k low. h (suc k) (omega (arith, low)))
 
 -- masks of one cost and level belong to the list of their key alone
-one-key : (level c : ℕ) (us : List ℕ) → All (λ u. mask_cost u ≡ c) us → (q : ℕ × ℕ) → filter (belongs level q) us ≡ cond (is_at (key_cmp (c, level)) q) us []
-one-key level c us h q = go (is_at (key_cmp (c, level)) q) refl
+one-key : (p : Loss) (level c : ℕ) (us : List ℕ) → All (λ u. mask_cost p u ≡ c) us → (q : ℕ × ℕ) → filter (belongs p level q) us ≡ cond (is_at (key_cmp (c, level)) q) us []
+one-key p level c us h q = go (is_at (key_cmp (c, level)) q) refl
   where
-    test : (k : ℕ) → k < length us → belongs level q (get_or us k 0) ≡ is_at (key_cmp (c, level)) q
+    test : (k : ℕ) → k < length us → belongs p level q (get_or us k 0) ≡ is_at (key_cmp (c, level)) q
     test k low = ap (λ d. (d == q.0) && (level == q.1)) (h k 0 low) ∙ sym (belongs-key c level q)
 
-    go : (b : Bool) → is_at (key_cmp (c, level)) q ≡ b → filter (belongs level q) us ≡ cond b us []
-    go true e = filter-all (belongs level q) us (λ k low. test k low ∙ e)
-    go false e = filter-none (belongs level q) us (λ k low. test k low ∙ e)
+    go : (b : Bool) → is_at (key_cmp (c, level)) q ≡ b → filter (belongs p level q) us ≡ cond b us []
+    go true e = filter-all (belongs p level q) us (λ k low. test k low ∙ e)
+    go false e = filter-none (belongs p level q) us (λ k low. test k low ∙ e)
 
 cond-append : (b : Bool) (old us : List ℕ) → cond b (old ++ us) old ≡ old ++ cond b us []
 cond-append true old us = refl
 cond-append false old us = sym (append-nil old)
 
 -- masks of one cost were appended to their list
-pub added-put : (m n : Lists) (level c : ℕ) (us : List ℕ) → All (λ u. mask_cost u ≡ c) us → IsPut m n (c, level) (masks_at m (c, level) ++ us) → HasAdded m n level us
-added-put m n level c us h put q =
+pub added-put : (p : Loss) (m n : Lists) (level c : ℕ) (us : List ℕ) → All (λ u. mask_cost p u ≡ c) us → IsPut m n (c, level) (masks_at m (c, level) ++ us) → HasAdded p m n level us
+added-put p m n level c us h put q =
     let at : cond (is_at (key_cmp (c, level)) q) (masks_at m (c, level) ++ us) (masks_at m q) ≡ cond (is_at (key_cmp (c, level)) q) (masks_at m q ++ us) (masks_at m q) =
     turn (is_at (key_cmp (c, level)) q) (λ e. ap (λ k. masks_at m k ++ us) (key-same (c, level) q e)) in
-    put q ∙ at ∙ cond-append (is_at (key_cmp (c, level)) q) (masks_at m q) us ∙ ap (λ (vs : List ℕ). masks_at m q ++ vs) (sym (one-key level c us h q))
+    put q ∙ at ∙ cond-append (is_at (key_cmp (c, level)) q) (masks_at m q) us ∙ ap (λ (vs : List ℕ). masks_at m q ++ vs) (sym (one-key p level c us h q))
   where
     turn : (b : Bool) → (b ≡ true → masks_at m (c, level) ++ us ≡ masks_at m q ++ us)
         → cond b (masks_at m (c, level) ++ us) (masks_at m q) ≡ cond b (masks_at m q ++ us) (masks_at m q)
@@ -127,12 +129,12 @@ added-put m n level c us h put q =
     turn false e = refl
 
 -- the last mask was taken from its list
-pub taken-put : (m n : Lists) (level c u : ℕ) (ws : List ℕ) → mask_cost u ≡ c → masks_at m (c, level) ≡ ws ++ u ∷ [] → IsPut m n (c, level) ws → HasAdded n m level (u ∷ [])
-taken-put m n level c u ws priced last put =
-    added-put n m level c (u ∷ []) (λ k d low. one k d low)
+pub taken-put : (p : Loss) (m n : Lists) (level c u : ℕ) (ws : List ℕ) → mask_cost p u ≡ c → masks_at m (c, level) ≡ ws ++ u ∷ [] → IsPut m n (c, level) ws → HasAdded p n m level (u ∷ [])
+taken-put p m n level c u ws priced last put =
+    added-put p n m level c (u ∷ []) (λ k d low. one k d low)
     (λ q. go q (is_at (key_cmp (c, level)) q) refl)
   where
-    one : (k d : ℕ) → k < 1 → mask_cost (get_or (u ∷ []) k d) ≡ c
+    one : (k d : ℕ) → k < 1 → mask_cost p (get_or (u ∷ []) k d) ≡ c
     one zero d low = priced
     one (suc k) d low = absurd (omega arith)
 
@@ -145,10 +147,11 @@ taken-put m n level c u ws priced last put =
 
 -- ---- tidy lists
 
-pub tidy-updates : (m n : Lists) (k : ℕ × ℕ) (v : Option (Vec ℕ)) → IsTidy m
+pub tidy-updates : (p : Loss) (m n : Lists) (k : ℕ × ℕ) (v : Option (Vec ℕ)) → IsTidy p m
     → ((q : ℕ × ℕ) → get key_cmp n q ≡ cond (is_at (key_cmp k) q) v (get key_cmp m q))
-    → ((w : Vec ℕ) → v ≡ Some w → 0 < length w.items) → ((u : ℕ) → Contains (items_of v) u → mask_cost u ≡ k.0) → IsTidy n
-tidy-updates m n k v tidy h some priced = record {
+    → ((w : Vec ℕ) → v ≡ Some w → 0 < length w.items) → ((u : ℕ) → Contains (items_of v) u → mask_cost p u ≡ k.0) → IsOrdered key_cmp n → IsTidy p n
+tidy-updates p m n k v tidy h some priced sorted = record {
+  ordered = sorted;
   some = λ q w e. go-some q w (is_at (key_cmp k) q) (sym (h q) ∙ e);
   priced = λ q u there. go-priced q u (is_at (key_cmp k) q) refl (subst (λ o. Contains (items_of o) u) (h q) there);
 }
@@ -157,7 +160,7 @@ tidy-updates m n k v tidy h some priced = record {
     go-some q w true e = some w e
     go-some q w false e = tidy.some q w e
 
-    go-priced : (q : ℕ × ℕ) (u : ℕ) (b : Bool) → is_at (key_cmp k) q ≡ b → Contains (items_of (cond b v (get key_cmp m q))) u → mask_cost u ≡ q.0
+    go-priced : (q : ℕ × ℕ) (u : ℕ) (b : Bool) → is_at (key_cmp k) q ≡ b → Contains (items_of (cond b v (get key_cmp m q))) u → mask_cost p u ≡ q.0
     go-priced q u true e there = priced u there ∙ ap (λ p. p.0) (key-same k q e)
     go-priced q u false e there = tidy.priced q u there
 

@@ -1,17 +1,16 @@
 -- The search of a loss by a frontier: its layers are those of the search, and what is answered is the choice.
-use Rattle.std.proofs.Common.{◌≡◌, ℕ, suc, ◌+◌, ◌<◌, ◌≤◌, true, cond, List, [], ◌∷◌, length, get_or, inl, inr, refl, sym, ◌∙◌, arith, ap, ap₂, subst, ⊎_elim, add-one}
+use Rattle.std.proofs.Common.{◌≡◌, ℕ, ◌+◌, ◌<◌, ◌≤◌, true, cond, List, [], ◌∷◌, length, get_or, inl, inr, refl, sym, ◌∙◌, arith, ap, ap₂, subst, ⊎_elim, add-one}
 use Rattle.std.specs.Prelude.{◌↔◌}
 use Rattle.std.specs.List.{Contains}
 use Rattle.std.proofs.lemmas.Bool.{le-leb, lt-leb}
 use Rattle.mr_model.specs.Sets.{within}
 use Rattle.mr_model.specs.Members.{members}
 use Rattle.mr_model.specs.Code.{cost, plain}
-use Rattle.mr_model.specs.Search.{Least, Spent, choice, is_node, least_cost, best, work}
+use Rattle.mr_model.specs.Search.{Least, Spent, choice, least_cost, best, work}
 use Rattle.mr_model.specs.Choice.{choice_of}
-use Rattle.mr_model.proofs.SetLaws.{Within-le, true-within, Within-zero, within-true}
-use Rattle.mr_model.proofs.CostLaws.{cost-count}
+use Rattle.mr_model.proofs.SetLaws.{Within-zero, within-true}
 use Rattle.mr_model.proofs.CheapestLaws.{cost-le}
-use Rattle.mr_model.proofs.SearchLaws.{good-true, true-good, node-within, node-or, node-good}
+use Rattle.mr_model.proofs.SearchLaws.{good-true, node-good}
 use Rattle.mr_model.proofs.BestLaws.{best-from, least_cost-le}
 use Rattle.mr_model.proofs.WorkBounds.{work-ge, work-none}
 use Rattle.mr_eq.specs.Problems.{Loss, IsLoss, search_for}
@@ -19,41 +18,32 @@ use Rattle.mr_eq.specs.Equations.{width_of}
 use Rattle.mr_eq.specs.Choices.{found_of}
 use Rattle.mr_eq.specs.declared.found.Found.{Found}
 use Rattle.mr_eq.specs.declared.found.Found.TheVariants.{Least as FoundLeast, Spent as FoundSpent}
-use Rattle.mr_eq.proofs.Losses.{matrix-ones, loss-cost, loss-good}
+use Rattle.mr_eq.proofs.Losses.{loss-cost, loss-good}
 use Rattle.mr_eq.proofs.LossLaws.{plain-node-law}
-use Rattle.mr_front.specs.declared.frontier.Frontier.{Frontier}
 use Rattle.mr_front.specs.declared.layers.Layer.{Layer}
-use Rattle.mr_front.specs.Waiting.{mask_cost}
-use Rattle.mr_front.specs.Frontiers.{Waits, IsFirstLayer, IsRest, WaitsToo}
+use Rattle.mr_front.specs.Waiting.{mask_cost, WaitsToo}
+use Rattle.mr_front.specs.Layers.{IsFirstLayer, IsRest}
 use Rattle.mr_front.specs.Children.{children}
-use Rattle.mr_front.proofs.LayerLaws.{IsLeastKey, IsUnion, IsNext}
+use Rattle.mr_front.proofs.LayerLaws.{IsLeastKey, IsNext}
 use Rattle.mr_front.proofs.LayerSteps.{IsStart}
 use Rattle.mr_front.proofs.Counts.{IsLayerList}
 use Rattle.mr_front.proofs.UnionLaws.{IsChildOf, contains-children, children-contains}
 use Rattle.mr_front.proofs.SearchSteps.{IsSearched}
 
-pub starts : (f : Frontier) → ((i u : ℕ) → Waits f i u ↔ ((i ≡ 0) × (u ≡ 0))) → IsStart (Waits f)
-starts f h = record { empty = (h 0 0).1 (refl, refl); only = λ i u w. (h i u).0 w }
+pub starts : (waits : ℕ → ℕ → Type 0) → ((i u : ℕ) → waits i u ↔ ((i ≡ 0) × (u ≡ 0))) → IsStart waits
+starts waits h = record { empty = (h 0 0).1 (refl, refl); only = λ i u w. (h i u).0 w }
 
 module _ (p : Loss) (h : IsLoss p) where
-  -- a set of survivors costs as many as it has members
-  agrees : (u : ℕ) → within u p.avail ≡ true → cost p.code u ≡ mask_cost u
-  agrees u inside = cost-count p.code u (matrix-ones p.code h.code_is) (omega (arith, Within-le u p.avail (true-within u p.avail inside), h.avail_below))
-
   -- the plain set costs at least the least cost
-  pub plain-bound : (bound : ℕ) → bound ≡ mask_cost (plain p.code p.avail p.targets) → least_cost (search_for p) ≤ bound
+  pub plain-bound : (bound : ℕ) → bound ≡ mask_cost p (plain p.code p.avail p.targets) → least_cost (search_for p) ≤ bound
   plain-bound bound e =
       let s = plain p.code p.avail p.targets in
       let good = node-good (search_for p) s (plain-node-law p h) in
       let le = least_cost-le (search_for p) (loss-cost p h) (loss-good p h) s good in
-      let same = agrees s (true-good (search_for p) s good).inside in
-      omega (arith, le, same, e)
+      omega (arith, le, e)
 
-  module _ (f : Frontier) (spent : ℕ) (searched : IsSearched (search_for p) (Waits f) spent) (l : Layer) (first : IsFirstLayer f l) where
-    waits-cost : (i u : ℕ) → Waits f i u → cost p.code u ≡ mask_cost u
-    waits-cost i u w = agrees u (node-within (search_for p) i u (searched.frontier.nodes i u w))
-
-    layer-mask : (u : ℕ) → Contains l.masks u → Waits f l.level u × (mask_cost u ≡ l.cost)
+  module _ (waits : ℕ → ℕ → Type 0) (spent : ℕ) (searched : IsSearched (search_for p) waits spent) (l : Layer) (first : IsFirstLayer p waits l) where
+    layer-mask : (u : ℕ) → Contains l.masks u → waits l.level u × (mask_cost p u ≡ l.cost)
     layer-mask u there = (first.masks u).0 there
 
     one : Contains l.masks (get_or l.masks 0 0)
@@ -63,30 +53,29 @@ module _ (p : Loss) (h : IsLoss p) where
         own [] k = absurd (omega arith)
         own (x ∷ xs) k = refl
 
-    pub layer-key : IsLeastKey (search_for p) (Waits f) l.cost l.level
+    pub layer-key : IsLeastKey (search_for p) waits l.cost l.level
     layer-key = record {
       mask = get_or l.masks 0 0;
       waiting = (layer-mask (get_or l.masks 0 0) one).0;
-      priced = waits-cost l.level (get_or l.masks 0 0) (layer-mask (get_or l.masks 0 0) one).0 ∙ (layer-mask (get_or l.masks 0 0) one).1;
+      priced = (layer-mask (get_or l.masks 0 0) one).1;
       least = λ i u w.
           let t = first.least i u w in
-          let same = waits-cost i u w in
-          record { cost = omega (arith, t.0, same); level = λ e. t.1 (e ∙ same) };
+          record { cost = t.0; level = λ e. t.1 e };
     }
 
-    pub layer-list : IsLayerList (search_for p) (Waits f) l.cost l.level l.masks
+    pub layer-list : IsLayerList (search_for p) waits l.cost l.level l.masks
     layer-list = record {
       rises = first.sorted;
-      has = λ u w e. (first.masks u).1 (w, sym (waits-cost l.level u w) ∙ e);
+      has = λ u w e. (first.masks u).1 (w, e);
       waiting = λ u there. (layer-mask u there).0;
-      priced = λ u there. waits-cost l.level u (layer-mask u there).0 ∙ (layer-mask u there).1;
+      priced = λ u there. (layer-mask u there).1;
     }
 
-    pub layer-next : (g later : Frontier) (bound : ℕ) → l.level < length (members p.targets) → IsRest f g l → WaitsToo g later (l.level + 1) (children p l.level bound l.masks)
-        → IsNext (search_for p) (Waits f) (Waits later) l.cost l.level bound
-    layer-next g later bound low rest too = record {
+    pub layer-next : (middle later : ℕ → ℕ → Type 0) (bound : ℕ) → l.level < length (members p.targets) → IsRest p waits middle l
+        → WaitsToo middle later (l.level + 1) (children p l.level bound l.masks) → IsNext (search_for p) waits later l.cost l.level bound
+    layer-next middle later bound low rest too = record {
       only = λ i u w. ⊎_elim
-          (λ (old : Waits g i u). let t = (rest i u).0 old in inl (t.0, λ at cost. t.1 at (sym (waits-cost i u t.0) ∙ cost)))
+          (λ (old : middle i u). let t = (rest i u).0 old in inl (t.0, λ at cost. t.1 at cost))
           (λ (new : (i ≡ l.level + 1) × Contains (children p l.level bound l.masks) u).
           let c = children-contains p h l.level bound low l.masks u new.1 in
           inr (
@@ -95,32 +84,26 @@ module _ (p : Loss) (h : IsLoss p) where
               mask = c.mask;
               equation = c.equation;
               waiting = (layer-mask c.mask c.among).0;
-              priced = waits-cost l.level c.mask (layer-mask c.mask c.among).0 ∙ (layer-mask c.mask c.among).1;
+              priced = (layer-mask c.mask c.among).1;
               equation_inside = c.inside;
               is_equation = c.equals;
               union = c.union;
             },
           ))
           ((too i u).0 w);
-      stays = λ i u w apart. (too i u).1 (inl ((rest i u).1 (w, λ at cost. apart at (waits-cost i u w ∙ cost))));
+      stays = λ i u w apart. (too i u).1 (inl ((rest i u).1 (w, apart)));
       joins = λ u made few.
-          let there = (first.masks made.mask).1 (made.waiting, sym (waits-cost l.level made.mask made.waiting) ∙ made.priced) in
-          let inside = node-within (search_for p) (suc l.level) u (joined u made) in
           let child : IsChildOf p l.level bound l.masks u = record {
             mask = made.mask;
             equation = made.equation;
-            among = there;
+            among = (first.masks made.mask).1 (made.waiting, made.priced);
             inside = made.equation_inside;
             equals = made.is_equation;
             union = made.union;
-            cheap = omega (arith, few, agrees u inside);
+            cheap = few;
           } in
-          subst (λ (i : ℕ). Waits later i u) (add-one l.level) ((too (l.level + 1) u).1 (inr (refl, contains-children p h l.level bound low l.masks u child)));
+          subst (λ (i : ℕ). later i u) (add-one l.level) ((too (l.level + 1) u).1 (inr (refl, contains-children p h l.level bound low l.masks u child)));
     }
-      where
-        joined : (u : ℕ) → IsUnion (search_for p) (Waits f) l.cost l.level u → is_node (search_for p) (suc l.level) u ≡ true
-        joined u made = subst (λ w. is_node (search_for p) (suc l.level) w ≡ true) made.union
-            (node-or (search_for p) l.level made.mask made.equation (searched.frontier.nodes l.level made.mask made.waiting) made.equation_inside made.is_equation)
 
   -- ---- what is answered
 

@@ -10,10 +10,9 @@ use Rattle.mr_eq.specs.declared.found.Found.TheVariants.{Least as FoundLeast, Sp
 use Rattle.mr_null.specs.declared.nulls.NullsError.{NullsError}
 use Rattle.mr_null.specs.declared.nulls.NullsError.TheVariants.{TooMany, Memory}
 use Rattle.mr_eq.proofs.Losses.{loss-cost, loss-good}
-use Rattle.mr_front.specs.declared.frontier.Frontier.{Frontier}
 use Rattle.mr_front.specs.declared.layers.Layer.{Layer}
-use Rattle.mr_front.specs.Waiting.{mask_cost}
-use Rattle.mr_front.specs.Frontiers.{Waits, IsFirstLayer, IsRest, WaitsToo}
+use Rattle.mr_front.specs.Waiting.{mask_cost, WaitsToo}
+use Rattle.mr_front.specs.Layers.{IsFirstLayer, IsRest}
 use Rattle.mr_front.specs.Children.{children}
 use Rattle.mr_front.proofs.SearchSteps.{IsSearched, searched_waits, layer_level, layer_within, searched_next, found_best, found_work}
 use Rattle.mr_front.proofs.LossSteps.{plain-bound, layer-key, layer-list, layer-next, found, found-least, found-spent}
@@ -44,21 +43,21 @@ many-above e budget n d x h k = go (nat_lt budget n) refl (sym h ∙ k)
     go true t e = omega (arith, leb-true (suc budget) n t)
     go false t e = absurd (cc)
 
-module _ (p : Loss) (h : IsLoss p) (f : Frontier) (spent : ℕ) (searched : IsSearched (search_for p) (Waits f) spent) where
-  pub waits-some : ((i u : ℕ) → Waits f i u → ⊥) → ⊥
-  waits-some none = searched_waits (search_for p) (loss-cost p h) (loss-good p h) (Waits f) spent searched none
+module _ (p : Loss) (h : IsLoss p) (waits : ℕ → ℕ → Type 0) (spent : ℕ) (searched : IsSearched (search_for p) waits spent) where
+  pub waits-some : ((i u : ℕ) → waits i u → ⊥) → ⊥
+  waits-some none = searched_waits (search_for p) (loss-cost p h) (loss-good p h) waits spent searched none
 
-  module _ (l : Layer) (first : IsFirstLayer f l) where
+  module _ (l : Layer) (first : IsFirstLayer p waits l) where
     -- at a layer of the last level
     pub last-answer : (budget s : ℕ) → length (members p.targets) ≤ l.level → spent ≤ budget → s ≡ get_or l.masks 0 0 → FoundLeast s spent ≡ found p h budget
     last-answer budget s high few e =
-        let key = layer-key p h f spent searched l first in
-        let list = layer-list p h f spent searched l first in
-        let level = layer_level (search_for p) (loss-cost p h) (loss-good p h) (Waits f) spent searched l.cost l.level key l.masks list in
+        let key = layer-key p h waits spent searched l first in
+        let list = layer-list p h waits spent searched l first in
+        let level = layer_level (search_for p) (loss-cost p h) (loss-good p h) waits spent searched l.cost l.level key l.masks list in
         let last : l.level ≡ length (members p.targets) = omega (arith, high, level) in
         found-least p h budget s spent
-        (found_best (search_for p) (loss-cost p h) (loss-good p h) (Waits f) spent searched l.cost l.level key l.masks list last first.some s (sym e))
-        (found_work (search_for p) (loss-cost p h) (loss-good p h) (Waits f) spent searched l.cost l.level key l.masks list last)
+        (found_best (search_for p) (loss-cost p h) (loss-good p h) waits spent searched l.cost l.level key l.masks list last first.some s (sym e))
+        (found_work (search_for p) (loss-cost p h) (loss-good p h) waits spent searched l.cost l.level key l.masks list last)
         few
 
     module _ (n w : ℕ) (count : n ≡ length l.masks) (width : w ≡ width_of p) (low : l.level < length (members p.targets)) where
@@ -68,21 +67,21 @@ module _ (p : Loss) (h : IsLoss p) (f : Frontier) (spent : ℕ) (searched : IsSe
       -- at a layer that is above the budget
       pub spent-answer : (budget s : ℕ) → s ≡ plain p.code p.avail p.targets → None ≡ up_to budget (spent + n * w) → FoundSpent s ≡ found p h budget
       spent-answer budget s e above =
-          let key = layer-key p h f spent searched l first in
-          let list = layer-list p h f spent searched l first in
-          let part = layer_within (search_for p) (loss-cost p h) (loss-good p h) (Waits f) spent searched l.cost l.level key l.masks list low in
+          let key = layer-key p h waits spent searched l first in
+          let list = layer-list p h waits spent searched l first in
+          let part = layer_within (search_for p) (loss-cost p h) (loss-good p h) waits spent searched l.cost l.level key l.masks list low in
           found-spent p h budget s e (omega (arith, none-above budget (spent + n * w) above, product, part))
 
       -- after a layer whose children joined
-      pub next-searched : (g later : Frontier) (budget bound more : ℕ) → bound ≡ mask_cost (plain p.code p.avail p.targets) → IsRest f g l
-          → WaitsToo g later (l.level + 1) (children p l.level bound l.masks) → Some more ≡ up_to budget (spent + n * w)
-          → IsSearched (search_for p) (Waits later) more × (more ≤ budget)
-      next-searched g later budget bound more cost_is rest too within =
-          let key = layer-key p h f spent searched l first in
-          let list = layer-list p h f spent searched l first in
+      pub next-searched : (middle later : ℕ → ℕ → Type 0) (budget bound more : ℕ) → bound ≡ mask_cost p (plain p.code p.avail p.targets) → IsRest p waits middle l
+          → WaitsToo middle later (l.level + 1) (children p l.level bound l.masks) → Some more ≡ up_to budget (spent + n * w)
+          → IsSearched (search_for p) later more × (more ≤ budget)
+      next-searched middle later budget bound more cost_is rest too within =
+          let key = layer-key p h waits spent searched l first in
+          let list = layer-list p h waits spent searched l first in
           let t = some-within budget (spent + n * w) more within in (
-            subst (λ (m : ℕ). IsSearched (search_for p) (Waits later) m) (sym (t.0 ∙ product))
-                (searched_next (search_for p) (loss-cost p h) (loss-good p h) (Waits f) spent searched l.cost l.level key l.masks list low (Waits later) bound
-                (layer-next p h f spent searched l first g later bound low rest too) (plain-bound p h bound cost_is)),
+            subst (λ (m : ℕ). IsSearched (search_for p) later m) (sym (t.0 ∙ product))
+                (searched_next (search_for p) (loss-cost p h) (loss-good p h) waits spent searched l.cost l.level key l.masks list low later bound
+                (layer-next p h waits spent searched l first middle later bound low rest too) (plain-bound p h bound cost_is)),
             omega (arith, t.0, t.1),
           )

@@ -1,4 +1,6 @@
 pub mod Waiting
-pub mod Frontiers
+pub mod Lists
+pub mod Layers
 pub mod Children
 pub mod Groups
+pub mod Searches

@@ -1,59 +1,26 @@
--- Lists of masks that wait, by cost and level.
-use Rattle.std.specs.Prelude.{◌≡◌, ℕ, ◌<◌, ◌≤◌, ◌==◌, Bool, ◌&&◌, List, [], ◌++◌, length, filter, Option, Some, None, count_ones}
+-- What a set costs, and what waits to be expanded.
+use Rattle.std.specs.Prelude.{◌≡◌, ℕ, ◌⊎◌, ◌↔◌, List}
 use Rattle.std.specs.List.{Contains}
-use Rattle.std.specs.Ordering.{nat_cmp, ordering_then}
-use Rattle.std.specs.declared.cmp.Ordering.{Ordering}
-use Rattle.std.specs.BTreeMap.{BTreeMap, get}
-use Rattle.std.specs.Global.{Vec}
+use Rattle.mr_model.specs.Code.{cost}
+use Rattle.mr_eq.specs.Problems.{Loss}
 
--- what a set costs: each symbol has the price 1
-abbrev pub mask_cost : ℕ → ℕ
-mask_cost u = count_ones u
+-- what it costs to read the symbols of a set
+abbrev pub mask_cost : Loss → ℕ → ℕ
+mask_cost p u = cost p.code u
 
--- the lists of masks, by cost and level
-abbrev pub Lists : Type 0
-Lists = BTreeMap (ℕ × ℕ) (Vec ℕ)
+-- what waits: the loss whose prices count, and masks, each behind its level, in any order
+pub record Queue : Type 0 where
+  pub loss : Loss
+  pub masks : List (ℕ × ℕ)
 
--- the order of the keys: by cost, then by level
-abbrev pub key_cmp : ℕ × ℕ → ℕ × ℕ → Ordering
-key_cmp p q = ordering_then (nat_cmp p.0 q.0) (nat_cmp p.1 q.1)
+-- the mask u waits at the level i
+abbrev pub Waits : Queue → ℕ → ℕ → Type 0
+Waits q i u = Contains q.masks (i, u)
 
-abbrev pub items_of : Option (Vec ℕ) → List ℕ
-items_of None = []
-items_of (Some v) = v.items
+-- what waits later is what waited, and these masks at a level
+abbrev pub WaitsToo : (ℕ → ℕ → Type 0) → (ℕ → ℕ → Type 0) → ℕ → List ℕ → Type 0
+WaitsToo waits later level us = (i u : ℕ) → later i u ↔ (waits i u ⊎ ((i ≡ level) × Contains us u))
 
--- the masks in the list of a key
-abbrev pub masks_at : Lists → ℕ × ℕ → List ℕ
-masks_at m q = items_of (get key_cmp m q)
-
--- each list has a mask, and has only masks of its cost
-pub record IsTidy (m : Lists) : Type 0 where
-  pub some : (q : ℕ × ℕ) (v : Vec ℕ) → get key_cmp m q ≡ Some v → 0 < length v.items
-  pub priced : (q : ℕ × ℕ) (u : ℕ) → Contains (masks_at m q) u → mask_cost u ≡ q.0
-
--- a mask at a level belongs to the list of the key
-abbrev pub belongs : ℕ → ℕ × ℕ → ℕ → Bool
-belongs level q u = (mask_cost u == q.0) && (level == q.1)
-
--- masks of a level were appended, each to the list of its cost
-abbrev pub HasAdded : Lists → Lists → ℕ → List ℕ → Type 0
-HasAdded old new level us = (q : ℕ × ℕ) → masks_at new q ≡ masks_at old q ++ filter (belongs level q) us
-
--- the same masks, in the same order
-abbrev pub HasSame : Lists → Lists → Type 0
-HasSame old new = (q : ℕ × ℕ) → masks_at new q ≡ masks_at old q
-
--- the masks were appended last: each list ends with those that belong to it
-abbrev pub EndsWith : Lists → ℕ → List ℕ → Type 0
-EndsWith m level us = (q : ℕ × ℕ) → (rest : List ℕ) × (masks_at m q ≡ rest ++ filter (belongs level q) us)
-
--- the list of the least key
-pub record IsFirstList (m : Lists) (k : ℕ × ℕ) (us : List ℕ) : Type 0 where
-  pub some : 0 < length us
-  pub list : masks_at m k ≡ us
-  pub least : (q : ℕ × ℕ) (u : ℕ) → Contains (masks_at m q) u → (k.0 ≤ q.0) × (k.0 ≡ q.0 → k.1 ≤ q.1)
-
--- the lists but for that of a key
-pub record IsWithout (old new : Lists) (k : ℕ × ℕ) : Type 0 where
-  pub none : masks_at new k ≡ []
-  pub others : (q : ℕ × ℕ) → (q.0 ≡ k.0 → q.1 ≡ k.1 → ⊥) → masks_at new q ≡ masks_at old q
+-- the same masks wait
+abbrev pub WaitsSame : (ℕ → ℕ → Type 0) → (ℕ → ℕ → Type 0) → Type 0
+WaitsSame waits later = (i u : ℕ) → later i u ↔ waits i u

@@ -1,11 +1,13 @@
 ghost use Rattle.std.specs.Prelude.{◌≡◌, ◌<◌, ◌≤◌, ◌⊎◌, ◌↔◌, ℕ, length, IfOk, OnOk};
 ghost use Rattle.std.specs.List.{Contains};
-ghost use Rattle.mr_front.specs.Frontiers.{Waits};
+ghost use Rattle.mr_model.specs.Members.{members};
+ghost use Rattle.mr_front.specs.Children.{children_of};
+ghost use Rattle.mr_front.specs.Waiting.{Waits};
 ghost use Rattle.mr_front.specs.Groups.{InGroups, HasNone, HasGrouped, WaitsGroups};
 
-use crate::costs::cost_of;
 use crate::frontier::Frontier;
 use mr_bits::{Mask, NoMemory};
+use mr_eq::Equations;
 use std::alloc::Global;
 
 /// How many groups there are: one for each cost from 0 to 127, and one for all that is more.
@@ -23,15 +25,27 @@ pub(crate) fn new_groups(alloc: Global) -> Result<Vec<Vec<Mask>>, NoMemory>
     Ok(groups)
 }
 
-/// Puts each mask into the group of its cost.
-pub(crate) fn group(masks: &[Mask], groups: &mut Vec<Vec<Mask>>) -> Result<(), NoMemory>
-    requires { length groups.old.items ≡ 129 }
-    ensures grouped { OnOk result (HasGrouped groups.old.items groups.new.items masks.now) }
+/// Puts the children of one mask of a level, as `expand` has them, into the groups of their costs.
+pub(crate) fn group_children(
+    equations: &Equations,
+    level: u8,
+    mask: Mask,
+    bound: u32,
+    groups: &mut Vec<Vec<Mask>>,
+) -> Result<(), NoMemory>
+    requires level { level < length (members equations.now.targets) }
+    requires room { length groups.old.items ≡ 129 }
+    ensures grouped { OnOk result (HasGrouped groups.old.items groups.new.items
+        (children_of equations.now level bound mask)) }
     ensures room { OnOk result (length groups.new.items ≡ 129) }
 {
-    for mask in masks {
-        let place = (cost_of(*mask) as usize).min(GROUPS - 1);
-        groups[place].push(*mask)?;
+    for index in 0..equations.width() {
+        let union = mask.union(equations.get(level, index));
+        let cost = equations.cost(union);
+        if cost <= bound {
+            let place = (cost as usize).min(GROUPS - 1);
+            groups[place].push(union)?;
+        }
     }
     Ok(())
 }
@@ -42,7 +56,8 @@ pub(crate) fn add_groups(
     level: u8,
     frontier: &mut Frontier,
 ) -> Result<(), NoMemory>
-    ensures added { OnOk result (WaitsGroups frontier.old frontier.new level groups.old.items) }
+    ensures loss { frontier.new.loss ≡ frontier.old.loss }
+    ensures added { OnOk result (WaitsGroups (Waits frontier.old) (Waits frontier.new) level groups.old.items) }
     ensures none { OnOk result (HasNone groups.new.items) }
     ensures room { OnOk result (length groups.new.items ≡ length groups.old.items) }
 {

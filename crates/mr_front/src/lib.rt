@@ -2,7 +2,6 @@
 #![tactic(auto)]
 
 mod children;
-mod costs;
 mod frontier;
 mod groups;
 mod layers;
@@ -11,7 +10,6 @@ mod search;
 mod waiting;
 
 pub use children::expand;
-pub use costs::cost_of;
 pub use frontier::Frontier;
 pub use layers::Layer;
 pub use masks::Masks;

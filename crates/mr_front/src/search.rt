@@ -1,14 +1,15 @@
 ghost use Rattle.std.specs.Prelude.{◌≡◌, ◌+◌, ◌*◌, ◌<◌, length, nat_le, Option, Some, None, IfOk, OnOk, if◌then◌else◌};
 ghost use Rattle.mr_model.specs.Members.{members};
 ghost use Rattle.mr_model.specs.Choice.{choice_of};
+ghost use Rattle.mr_model.specs.Laws.{IsLean};
 ghost use Rattle.mr_eq.specs.Choices.{found_of};
-ghost use Rattle.mr_front.specs.Frontiers.{WaitsToo};
+ghost use Rattle.mr_eq.specs.Laws.{IsWorkBounded};
+ghost use Rattle.mr_front.specs.Searches.{set_of, IsFoundWithin};
+ghost use Rattle.mr_front.specs.Waiting.{Waits, WaitsToo};
 ghost use Rattle.mr_front.specs.Children.{children};
 
-use crate::children::expand;
-use crate::costs::cost_of;
 use crate::frontier::Frontier;
-use crate::groups::{add_groups, group, new_groups};
+use crate::groups::{add_groups, group_children, new_groups};
 use crate::layers::Layer;
 use mr_bits::{Mask, NoMemory};
 use mr_eq::{Equations, Found, Problem};
@@ -19,9 +20,25 @@ use std::alloc::Global;
 /// finding it is at most `budget`, and otherwise the plain set.
 ///
 /// The answer is `Spent` exactly where the work is above `budget`. Where each target has more equations than that,
-/// none is listed.
+/// none is listed. Either set determines the targets, its rows are independent, and it is the union of its recipes. With
+/// `d` the number of survivors less the rank of their rows, the work is at most the sum of 2 to the power `d`, `2 d`,
+/// `3 d` and so on, one for each target.
 pub fn search_one(alloc: Global, problem: &Problem, budget: u32) -> Result<Found, NoMemory>
-    ensures { IfOk result (λ found. found ≡ found_of (choice_of problem.now.code problem.now.avail problem.now.targets budget)) }
+    ensures choice { IfOk result (λ found. found ≡ found_of
+        (choice_of problem.now.code problem.now.avail problem.now.targets budget)) }
+    ensures within { IfOk result (IsFoundWithin problem.now budget) }
+    ensures lean { IfOk result (λ found. IsLean problem.now.code problem.now.avail problem.now.targets
+        (set_of found)) }
+    ensures bounded { IsWorkBounded problem.now }
+{
+    let _loss = problem.targets();
+    find(alloc, problem, budget)
+}
+
+/// The choice for a problem.
+fn find(alloc: Global, problem: &Problem, budget: u32) -> Result<Found, NoMemory>
+    ensures { IfOk result (λ found. found ≡ found_of
+        (choice_of problem.now.code problem.now.avail problem.now.targets budget)) }
 {
     let _loss = problem.targets();
     if problem.levels() == 0 {
@@ -48,13 +65,14 @@ fn search_layers(
     budget: u32,
 ) -> Result<Found, NoMemory>
     requires { equations.now ≡ problem.now }
-    ensures { IfOk result (λ found. found ≡ found_of (choice_of problem.now.code problem.now.avail problem.now.targets budget)) }
+    ensures { IfOk result (λ found. found ≡ found_of
+        (choice_of problem.now.code problem.now.avail problem.now.targets budget)) }
 {
     let width = equations.width();
     let levels = problem.levels();
     let plain = problem.plain();
-    let bound = cost_of(plain);
-    let mut frontier = Frontier::new(alloc)?;
+    let bound = problem.cost(plain);
+    let mut frontier = Frontier::new(alloc, problem)?;
     let mut work = 0;
     while let Some(layer) = frontier.take_layer() {
         if layer.level >= levels {
@@ -95,15 +113,14 @@ fn expand_layer(
     frontier: &mut Frontier,
 ) -> Result<(), NoMemory>
     requires { layer.now.level < length (members equations.now.targets) }
-    ensures { OnOk result (WaitsToo frontier.old frontier.new (layer.now.level + 1)
+    ensures loss { frontier.new.loss ≡ frontier.old.loss }
+    ensures added { OnOk result (WaitsToo (Waits frontier.old) (Waits frontier.new) (layer.now.level + 1)
         (children equations.now layer.now.level bound layer.now.masks)) }
 {
-    let mut united = Vec::new(alloc);
     let mut groups = new_groups(alloc)?;
     for place in 0..layer.masks.len() {
-        united.clear();
-        expand(equations, layer, place, place + 1, bound, &mut united)?;
-        group(&united, &mut groups)?;
+        let mask = layer.masks.get(place);
+        group_children(equations, layer.level, mask, bound, &mut groups)?;
         add_groups(&mut groups, layer.level + 1, frontier)?;
     }
     Ok(())
