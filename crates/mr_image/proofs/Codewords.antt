@@ -1,23 +1,15 @@
 -- The law of mended images and near replies, over whole images.
 use Rattle.std.proofs.Common.{◌≡◌, ℕ, zero, suc, ◌+◌, ◌*◌, ◌^◌, ◌<◌, List, ◌++◌, flat_map, length, refl, sym, ap, ap₂, subst, ◌∙◌, arith}
 use Rattle.std.specs.List.{range_with_len}
-use Rattle.mr_model.specs.Code.{Code, code_of, dimensions, cost}
+use Rattle.mr_model.specs.Code.{Code, cost}
 use Rattle.mr_model.proofs.CheapestLaws.{IsCost}
 use Rattle.mr_model.proofs.CostLaws.{price_law}
-use Rattle.mr_model.proofs.Prices.{IsPriced, IsPriced-code_of}
 use Rattle.mr_bits.specs.Matrices.{IsMatrixCode}
+use Rattle.mr_bits.proofs.MatrixLaws.{matrix-priced}
 use Rattle.mr_image.specs.Images.{Layout, IsLayout, stripe_symbols, Image, image_body, mended, code_image}
 use Rattle.mr_image.specs.Heads.{head_bytes}
 use Rattle.mr_image.specs.Laws.{GivesCodewords}
 use Rattle.mr_image.proofs.MendedLaws.{mended-code, near-code}
-
--- the code of a matrix has a price of at least 1 for each symbol
-matrix-priced : (m : Code) → IsMatrixCode m → IsPriced m
-matrix-priced m h =
-    let same : code_of (dimensions m) m.rows ≡ m =
-    λ j. record { devices = m.devices; symbols_per_device = m.symbols_per_device; columns = m.columns; rows = m.rows; prices = sym h.prices j } in
-    let P : Code → Type 0 = λ k. IsPriced k in
-    subst P same (IsPriced-code_of (dimensions m) m.rows h.shape.some_symbols h.count)
 
 -- among survivors of a matrix a set costs more than each of its own subsets
 survivors-cost : (l : Layout) (m : Code) (survivors : ℕ) → IsMatrixCode m → m.devices ≡ l.devices → m.symbols_per_device ≡ l.symbols_per_device

@@ -78,7 +78,7 @@ read_head-is l bytes d len limits is =
 
 -- ---- what is read has that one spelling
 
-guard_ok : (b : Bool) (fault : HeadFault) (r : Result Layout HeadFault) (l : Layout) → cond b (Err fault) r ≡ Ok l → (b ≡ false) × (r ≡ Ok l)
+pub guard_ok : (b : Bool) (fault : HeadFault) (r : Result Layout HeadFault) (l : Layout) → cond b (Err fault) r ≡ Ok l → (b ≡ false) × (r ≡ Ok l)
 guard_ok true fault r l e = cc
 guard_ok false fault r l e = (refl, e)
 
@@ -102,7 +102,7 @@ of_length-ok len (Ok k) l e = go (len == file_bytes k) refl e
     go true same e = (e, eqb-true len (file_bytes k) same ∙ ap file_bytes (ok_is k l e))
     go false other e = cc
 
-checked_layout-is : (d : Dimensions) (bytes stripes : ℕ) (l : Layout) → checked_layout d bytes stripes ≡ Ok l → layout d bytes stripes ≡ l
+pub checked_layout-is : (d : Dimensions) (bytes stripes : ℕ) (l : Layout) → checked_layout d bytes stripes ≡ Ok l → layout d bytes stripes ≡ l
 checked_layout-is d bytes stripes l e =
     let k : Layout = layout d bytes stripes in
     let over : HeadFault = TooLarge (record { what = ImageBytes; number = body_bytes k }) in

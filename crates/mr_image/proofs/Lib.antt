@@ -1,6 +1,7 @@
 pub mod SymbolLaws
 pub mod MendedLaws
 pub mod HeadLaws
+pub mod HeadFaultLaws
 pub mod Codewords
 pub mod XorLaws
 pub mod FileLaws

@@ -1,9 +1,10 @@
 -- The head of an image file: what it spells, and the first fault of what does not spell one.
-use Rattle.std.specs.Prelude.{◌≡◌, ℕ, ◌+◌, ◌%◌, ◌^◌, ◌==◌, nat_lt, Bool, not, ◌&&◌, ◌||◌, List, ◌++◌, take, drop, replicate, Result, Ok, Err, codes, if◌then◌else◌}
+use Rattle.std.specs.Prelude.{◌≡◌, ℕ, ◌+◌, ◌%◌, ◌==◌, nat_lt, Bool, not, ◌&&◌, ◌||◌, List, ◌++◌, take, drop, replicate, Result, Ok, Err, codes, if◌then◌else◌}
 use Rattle.std.specs.Int.{w32, to_le_bytes, from_le_bytes}
 use Rattle.std.specs.Str.{bytes_eq}
 use Rattle.mr_model.specs.Code.{Dimensions}
 use Rattle.mr_bits.specs.declared.errors.What.TheVariants.{SymbolBytes, ImageBytes}
+use Rattle.mr_image.specs.declared.limits.TheConstants.{HEAD_BYTES, IMAGE_LIMIT, SYMBOL_LIMIT}
 use Rattle.mr_image.specs.declared.faults.HeadFault.{HeadFault}
 use Rattle.mr_image.specs.declared.faults.HeadFault.TheVariants.{Bad, Large as TooLarge}
 use Rattle.mr_image.specs.declared.faults.ImageKind.TheVariants.{Head, Shape, Bytes, Length}
@@ -22,25 +23,33 @@ image_bytes l image = head_bytes l ++ image_body l image
 
 -- the length of that file
 abbrev pub file_bytes : Layout → ℕ
-file_bytes l = 32 + body_bytes l
+file_bytes l = HEAD_BYTES + body_bytes l
 
 -- ---- the first fault
 
 -- the layout of an image for a code of these dimensions
 abbrev pub layout : Dimensions → ℕ → ℕ → Layout
-layout d bytes stripes = record { devices = d.devices; symbols_per_device = d.symbols_per_device; symbol_bytes = bytes; stripes = stripes }
+layout d bytes stripes = record {
+  devices = d.devices;
+  symbols_per_device = d.symbols_per_device;
+  symbol_bytes = bytes;
+  stripes = stripes;
+}
 
 -- a layout within the limits, or what is first wrong with its numbers
 abbrev pub checked_layout : Dimensions → ℕ → ℕ → Result Layout HeadFault
 checked_layout d bytes stripes =
     if bytes == 0 || not (bytes % 8 == 0) then Err (Bad Bytes)
-    else if nat_lt 65536 bytes then Err (TooLarge (record { what = SymbolBytes; number = bytes }))
-    else if nat_lt (2 ^ 28) (body_bytes (layout d bytes stripes)) then Err (TooLarge (record { what = ImageBytes; number = body_bytes (layout d bytes stripes) }))
+    else if nat_lt SYMBOL_LIMIT bytes
+    then Err (TooLarge (record { what = SymbolBytes; number = bytes }))
+    else if nat_lt IMAGE_LIMIT (body_bytes (layout d bytes stripes))
+    then Err (TooLarge (record { what = ImageBytes; number = body_bytes (layout d bytes stripes) }))
     else Ok (layout d bytes stripes)
 
 -- bytes 0 to 7 and 24 to 31 are those of a head
 unfoldable pub has_marks : List ℕ → Bool
-has_marks bytes = bytes_eq (take 8 bytes) (codes "MRIMAGE1") && bytes_eq (take 8 (drop 24 bytes)) (replicate 8 0)
+has_marks bytes = bytes_eq (take 8 bytes) (codes "MRIMAGE1")
+    && bytes_eq (take 8 (drop 24 bytes)) (replicate 8 0)
 
 -- the number of four bytes from a place on, the lowest first
 unfoldable pub number_at : ℕ → List ℕ → ℕ

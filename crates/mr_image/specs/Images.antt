@@ -7,6 +7,7 @@ use Rattle.mr_model.specs.Code.{Code}
 use Rattle.mr_model.specs.Codewords.{codeword}
 use Rattle.mr_model.specs.Choice.{single}
 use Rattle.mr_model.specs.Plans.{Recipe, IsValidPlan}
+use Rattle.mr_image.specs.declared.limits.TheConstants.{HEAD_BYTES, IMAGE_LIMIT, SYMBOL_LIMIT}
 
 -- ---- the form of an image, and where its symbols stand in a file
 
@@ -32,12 +33,12 @@ pub record IsLayout (l : Layout) : Type 0 where
   pub few_symbols : stripe_symbols l ≤ 128
   pub some_bytes : 1 ≤ l.symbol_bytes
   pub whole_words : l.symbol_bytes % 8 ≡ 0
-  pub few_bytes : l.symbol_bytes ≤ 65536
-  pub few_in_all : body_bytes l ≤ 2 ^ 28
+  pub few_bytes : l.symbol_bytes ≤ SYMBOL_LIMIT
+  pub few_in_all : body_bytes l ≤ IMAGE_LIMIT
 
--- where symbol i of stripe s begins in a file, behind a head of 32 bytes
+-- where symbol i of stripe s begins in a file, behind the head
 abbrev pub place : Layout → ℕ → ℕ → ℕ
-place l s i = 32 + (s * stripe_symbols l + i) * l.symbol_bytes
+place l s i = HEAD_BYTES + (s * stripe_symbols l + i) * l.symbol_bytes
 
 -- ---- images
 
@@ -55,7 +56,9 @@ stripe_of l image s = map (image s) (range_with_len 0 (stripe_symbols l))
 
 -- the bytes of all symbols in order
 abbrev pub image_body : Layout → Image → List ℕ
-image_body l image = flat_map (λ s. flat_map (image s) (range_with_len 0 (stripe_symbols l))) (range_with_len 0 l.stripes)
+image_body l image =
+    flat_map (λ s. flat_map (image s) (range_with_len 0 (stripe_symbols l)))
+    (range_with_len 0 l.stripes)
 
 -- ---- what is made of an image
 
@@ -65,12 +68,14 @@ every_stripe x s = x
 
 -- the XOR of the symbols at the members of x, at each place of `size` bytes: of none it is zero bytes
 unfoldable pub xor_symbols : ℕ → List (List ℕ) → ℕ → List ℕ
-xor_symbols size symbols x = map (λ place. sum (map (λ bytes. slice_index bytes place) symbols) x) (range_with_len 0 size)
+xor_symbols size symbols x =
+    map (λ place. sum (map (λ bytes. slice_index bytes place) symbols) x) (range_with_len 0 size)
 
 -- the equation that the first recipe of symbol t names
 unfoldable pub equation_of : List Recipe → ℕ → Option ℕ
 equation_of [] t = None
-equation_of (recipe ∷ recipes) t = if recipe.symbol == t then Some recipe.equation else equation_of recipes t
+equation_of (recipe ∷ recipes) t =
+    if recipe.symbol == t then Some recipe.equation else equation_of recipes t
 
 -- a symbol with an equation is the XOR of the symbols there, and without one is as it was
 abbrev pub rebuilt : ℕ → List (List ℕ) → List ℕ → Option ℕ → List ℕ
@@ -79,7 +84,8 @@ rebuilt size symbols symbol (Some equation) = xor_symbols size symbols equation
 
 -- the mended image: the symbols that have a recipe in their stripe are rebuilt, and the others are as they were
 unfoldable pub mended : Layout → (ℕ → List Recipe) → Image → ℕ → ℕ → List ℕ
-mended l recipes image s i = rebuilt l.symbol_bytes (stripe_of l image s) (image s i) (equation_of (recipes s) i)
+mended l recipes image s i =
+    rebuilt l.symbol_bytes (stripe_of l image s) (image s i) (equation_of (recipes s) i)
 
 -- the near reply for symbol t: the XOR of the symbols that are read for it alone
 unfoldable pub near : Layout → (ℕ → ℕ → ℕ) → Image → ℕ → ℕ → List ℕ
@@ -96,8 +102,10 @@ abbrev pub code_image : Layout → (ℕ → Code) → (ℕ → List (List ℕ)) 
 code_image l codes columns s i = codeword (codes s) l.symbol_bytes (columns s) i
 
 -- the survivors of each stripe are those of the codewords of the data
-pub record ComeFrom (l : Layout) (codes : ℕ → Code) (survivors : ℕ → ℕ) (image : Image) (columns : ℕ → List (List ℕ)) : Type 0 where
-  pub same : (s i : ℕ) → s < l.stripes → bit_at (survivors s) i ≡ 1 → image s i ≡ code_image l codes columns s i
+pub record ComeFrom (l : Layout) (codes : ℕ → Code) (survivors : ℕ → ℕ) (image : Image)
+    (columns : ℕ → List (List ℕ)) : Type 0 where
+  pub same : (s i : ℕ) → s < l.stripes → bit_at (survivors s) i ≡ 1
+      → image s i ≡ code_image l codes columns s i
 
 -- each symbol of a stripe survives or is lost, and no other survives
 pub record Covers (l : Layout) (survivors lost : ℕ) : Type 0 where
@@ -105,6 +113,8 @@ pub record Covers (l : Layout) (survivors lost : ℕ) : Type 0 where
   pub each : (i : ℕ) → i < stripe_symbols l → (bit_at survivors i ≡ 1) ⊎ (bit_at lost i ≡ 1)
 
 -- in each stripe the recipes are a valid plan for the lost symbols
-pub record AreValid (l : Layout) (codes : ℕ → Code) (survivors lost sets : ℕ → ℕ) (recipes : ℕ → List Recipe) : Type 0 where
+pub record AreValid (l : Layout) (codes : ℕ → Code) (survivors lost sets : ℕ → ℕ)
+    (recipes : ℕ → List Recipe) : Type 0 where
   pub covered : (s : ℕ) → s < l.stripes → Covers l (survivors s) (lost s)
-  pub valid : (s : ℕ) → s < l.stripes → IsValidPlan (codes s) (survivors s) (lost s) (sets s) (recipes s)
+  pub valid : (s : ℕ) → s < l.stripes
+      → IsValidPlan (codes s) (survivors s) (lost s) (sets s) (recipes s)

@@ -17,14 +17,19 @@ pub record AreCodesOf (l : Layout) (codes : ℕ → Code) : Type 0 where
 -- the data, each symbol of the mended image is that of the codeword, its file is that of the codewords, and the near
 -- reply for each lost symbol is its symbol of the codeword.
 pub record GivesCodewords (l : Layout) : Type 0 where
-  pub symbols : (codes : ℕ → Code) (survivors lost sets : ℕ → ℕ) (recipes : ℕ → List Recipe) (image : Image) (columns : ℕ → List (List ℕ))
+  pub symbols : (codes : ℕ → Code) (survivors lost sets : ℕ → ℕ) (recipes : ℕ → List Recipe)
+      (image : Image) (columns : ℕ → List (List ℕ))
       → AreValid l codes survivors lost sets recipes → ComeFrom l codes survivors image columns
-      → (s i : ℕ) → s < l.stripes → i < stripe_symbols l → mended l recipes image s i ≡ code_image l codes columns s i
-  pub file : (codes : ℕ → Code) (survivors lost sets : ℕ → ℕ) (recipes : ℕ → List Recipe) (image : Image) (columns : ℕ → List (List ℕ))
+      → (s i : ℕ) → s < l.stripes → i < stripe_symbols l
+      → mended l recipes image s i ≡ code_image l codes columns s i
+  pub file : (codes : ℕ → Code) (survivors lost sets : ℕ → ℕ) (recipes : ℕ → List Recipe)
+      (image : Image) (columns : ℕ → List (List ℕ))
       → AreValid l codes survivors lost sets recipes → ComeFrom l codes survivors image columns
       → image_bytes l (mended l recipes image) ≡ image_bytes l (code_image l codes columns)
-  pub replies : (codes : ℕ → Code) (survivors lost sets : ℕ → ℕ) (recipes : ℕ → List Recipe) (image : Image) (columns : ℕ → List (List ℕ))
-      → AreCodesOf l codes → AreValid l codes survivors lost sets recipes → ComeFrom l codes survivors image columns
+  pub replies : (codes : ℕ → Code) (survivors lost sets : ℕ → ℕ) (recipes : ℕ → List Recipe)
+      (image : Image) (columns : ℕ → List (List ℕ))
+      → AreCodesOf l codes → AreValid l codes survivors lost sets recipes
+      → ComeFrom l codes survivors image columns
       → (budget s t : ℕ) → s < l.stripes → t < stripe_symbols l → bit_at (lost s) t ≡ 1
       → near l (singles_of codes survivors budget) image s t ≡ code_image l codes columns s t
 
@@ -34,4 +39,6 @@ pub record HasSizes (l : Layout) (image : Image) : Type 0 where
 
 -- Whatever image a file is made of: it holds that image, each symbol at its place.
 pub record HoldsImages (l : Layout) : Type 0 where
-  pub symbols : (image : Image) → HasSizes l image → (s i : ℕ) → s < l.stripes → i < stripe_symbols l → image_of l (image_bytes l image) s i ≡ image s i
+  pub symbols : (image : Image) → HasSizes l image
+      → (s i : ℕ) → s < l.stripes → i < stripe_symbols l
+      → image_of l (image_bytes l image) s i ≡ image s i

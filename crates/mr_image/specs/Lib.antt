@@ -1,3 +1,4 @@
 pub mod Images
 pub mod Heads
+pub mod HeadFaults
 pub mod Laws

@@ -1,19 +1,12 @@
-ghost use Rattle.std.specs.Prelude.{◌≡◌, ◌+◌, ◌*◌, ◌<◌, ◌≤◌, ℕ, IfOk, Ok, length};
+ghost use Rattle.std.specs.Prelude.{◌≡◌, ◌+◌, ◌*◌, ◌<◌, ◌≤◌, ℕ, IfOk, IfErr, Ok, length};
 ghost use Rattle.mr_image.specs.Images.{Layout, IsLayout, stripe_symbols, body_bytes, place};
 ghost use Rattle.mr_image.specs.Heads.{head_bytes, file_bytes, checked_layout, has_marks, number_at, is_of_shape, read_head, IsSpelled};
+ghost use Rattle.mr_image.specs.HeadFaults.{IsHeadFault};
 
 use crate::faults::{HeadFault, ImageKind};
+use crate::limits::{HEAD_BYTES, IMAGE_LIMIT, SYMBOL_LIMIT};
 use mr_bits::{Large, Shape, What};
 use std::marker::Model;
-
-/// The bytes before the first symbol.
-const HEAD: u64 = 32;
-
-/// The most bytes of a symbol.
-const SYMBOL_LIMIT: u32 = 65_536;
-
-/// The most bytes of all symbols.
-const IMAGE_LIMIT: u64 = 268_435_456;
 
 /// The first eight bytes of an image file.
 const MARK: [u8; 8] = *b"MRIMAGE1";
@@ -38,11 +31,26 @@ impl Model for ImageHead {
 
     ghost Value = { Layout };
 
-    ghost view = { λ h. record { devices = h.n; symbols_per_device = h.w; symbol_bytes = h.bytes; stripes = h.stripes } };
+    ghost view = { λ h. record {
+      devices = h.n;
+      symbols_per_device = h.w;
+      symbol_bytes = h.bytes;
+      stripes = h.stripes;
+    } };
 
-    ghost invariant = { λ h. IsLayout (record { devices = h.n; symbols_per_device = h.w; symbol_bytes = h.bytes; stripes = h.stripes }) };
+    ghost invariant = { λ h. IsLayout (record {
+      devices = h.n;
+      symbols_per_device = h.w;
+      symbol_bytes = h.bytes;
+      stripes = h.stripes;
+    }) };
 
-    ghost inverse = { λ l. record { n = l.devices; w = l.symbols_per_device; bytes = l.symbol_bytes; stripes = l.stripes } };
+    ghost inverse = { λ l. record {
+      n = l.devices;
+      w = l.symbols_per_device;
+      bytes = l.symbol_bytes;
+      stripes = l.stripes;
+    } };
 }
 
 impl ImageHead {
@@ -83,10 +91,12 @@ impl ImageHead {
     /// symbols of each are not the shape's, then what `new` answers, and then `Bad(Length)` where `len` is not the
     /// length of the head and all symbols.
     pub fn read(head: &[u8; 32], shape: Shape, len: u64) -> Result<ImageHead, HeadFault>
-        requires { 32 ≤ len }
+        requires { HEAD_BYTES ≤ len }
         ensures value { result ≡ read_head head.now shape len }
+        ensures fault { IfErr result (IsHeadFault head.now shape len) }
         ensures read { IfOk result (IsSpelled head.now shape len) }
-        ensures spelled { (l : Layout) → IsLayout l → IsSpelled head.now shape len l → result ≡ Ok l }
+        ensures spelled { (l : Layout) → IsLayout l → IsSpelled head.now shape len l
+            → result ≡ Ok l }
     {
         read_layout(head, shape, len)
     }
@@ -151,14 +161,14 @@ impl ImageHead {
         ensures within { result + self.now.symbol_bytes ≤ file_bytes self.now }
     {
         let before = u64::from(stripe) * u64::from(self.symbols()) + u64::from(symbol);
-        HEAD + before * u64::from(self.bytes)
+        HEAD_BYTES + before * u64::from(self.bytes)
     }
 
     /// How many bytes a file with this head has.
     pub fn file_bytes(&self) -> u64
         ensures { result ≡ file_bytes self.now }
     {
-        HEAD + u64::from(self.stripes) * u64::from(self.symbols()) * u64::from(self.bytes)
+        HEAD_BYTES + u64::from(self.stripes) * u64::from(self.symbols()) * u64::from(self.bytes)
     }
 }
 

@@ -5,6 +5,8 @@
 mod faults;
 mod heads;
 pub mod laws;
+mod limits;
 
 pub use faults::{HeadFault, ImageKind};
 pub use heads::ImageHead;
+pub use limits::{HEAD_BYTES, IMAGE_LIMIT, SYMBOL_LIMIT};
