@@ -3,13 +3,13 @@ use Rattle.std.proofs.Common.{◌≡◌, ℕ, ◌+◌, ◌^◌, ◌<◌, Bool, t
 use Rattle.std.proofs.lemmas.Bool.{eqb-true, and_parts}
 use Rattle.std.proofs.lemmas.List.{take_more, take_more_set, get_or-drop, map-append, drop-drop, get_or-take}
 use Rattle.std.proofs.lemmas.List.Elements.{All-map, All-from_get_or}
-use Rattle.mr_model.specs.Code.{Dimensions, code_of}
+use Rattle.mr_model.specs.Code.{Dimensions, priced_code}
 use Rattle.mr_model.proofs.Finding.{find_below-is, set_below-lt}
 use Rattle.mr_bits.specs.Matrices.{symbol_count}
 use Rattle.mr_form.specs.declared.faults.LineKind.{LineKind}
 use Rattle.mr_form.specs.declared.faults.LineKind.TheVariants.{Row, Extra}
 use Rattle.mr_form.specs.declared.faults.MatrixFault.TheVariants.{Bad}
-use Rattle.mr_form.specs.MatrixText.{line_at, line_fault, is_end, is_row, ones_below, row_of, row_fault, first_bad_row, after_rows}
+use Rattle.mr_form.specs.MatrixText.{line_at, line_fault, is_end, is_row, ones_below, row_of, row_fault, first_bad_row, after_rows, read_rows}
 use Rattle.mr_form.proofs.LineLaws.{good-line}
 
 -- The first i rows are read, nothing is wrong with them, and `left` are the lines behind them.
@@ -47,11 +47,11 @@ read-more k body left next i row rows h within good row_is next_is = record {
 
 -- ---- what comes of the rows
 
-module _ (d : Dimensions) (body left : List (List ℕ)) (rows : List ℕ) where
+module _ (d : Dimensions) (prices : List ℕ) (line : ℕ) (body left : List (List ℕ)) (rows : List ℕ) where
   -- something is wrong with row i
   pub body-bad : (i : ℕ) (kind : LineKind) → IsReadSoFar d.columns body left i rows → i < symbol_count d
-      → row_fault d.columns left 0 ≡ Some kind → Err (Bad (i + 2) kind) ≡ after_rows d body (first_bad_row d body)
-  body-bad i kind h within bad = sym (ap (after_rows d body) first ∙ ap (λ o. Err (Bad (i + 2) (unwrap_or o Row))) here)
+      → row_fault d.columns left 0 ≡ Some kind → Err (Bad (line + i) kind) ≡ read_rows d prices line body
+  body-bad i kind h within bad = sym (ap (after_rows d prices line body) first ∙ ap (λ o. Err (Bad (line + i) (unwrap_or o Row))) here)
     where
       here : row_fault d.columns body i ≡ Some kind
       here = subst (λ l. line_fault (is_row d.columns) Row l ≡ Some kind) h.left_is bad
@@ -65,16 +65,16 @@ module _ (d : Dimensions) (body left : List (List ℕ)) (rows : List ℕ) where
   body-good h = find_below-is (symbol_count d) (λ j. is_some (row_fault d.columns body j)) None (λ j lt. ap is_some (h.good j lt))
 
   pub body-end : (t : Bool) → IsReadSoFar d.columns body left (symbol_count d) rows → is_end left ≡ t
-      → after_rows d body (first_bad_row d body)
-      ≡ cond t (Ok (code_of d (take (symbol_count d) rows))) (Err (Bad (symbol_count d + 2) Extra))
+      → read_rows d prices line body
+      ≡ cond t (Ok (priced_code d (take (symbol_count d) rows) prices)) (Err (Bad (line + symbol_count d) Extra))
   body-end t h e =
-      ap (after_rows d body) (body-good h)
-      ∙ ap (λ l. cond (is_end l) (Ok (code_of d (map row_of (take (symbol_count d) body)))) (Err (Bad (symbol_count d + 2) Extra))) (sym h.left_is)
-      ∙ ap (λ u. cond u (Ok (code_of d (map row_of (take (symbol_count d) body)))) (Err (Bad (symbol_count d + 2) Extra))) e
-      ∙ ap (λ r. cond t (Ok (code_of d r)) (Err (Bad (symbol_count d + 2) Extra))) (sym h.rows_are)
+      ap (after_rows d prices line body) (body-good h)
+      ∙ ap (λ l. cond (is_end l) (Ok (priced_code d (map row_of (take (symbol_count d) body)) prices)) (Err (Bad (line + symbol_count d) Extra))) (sym h.left_is)
+      ∙ ap (λ u. cond u (Ok (priced_code d (map row_of (take (symbol_count d) body)) prices)) (Err (Bad (line + symbol_count d) Extra))) e
+      ∙ ap (λ r. cond t (Ok (priced_code d r prices)) (Err (Bad (line + symbol_count d) Extra))) (sym h.rows_are)
 
 -- each row has columns of the matrix alone
-row-below : (k : ℕ) (line : List ℕ) → is_row k line ≡ true → row_of line < 2 ^ k
+pub row-below : (k : ℕ) (line : List ℕ) → is_row k line ≡ true → row_of line < 2 ^ k
 unfolding is_row ones_below
 row-below k line h = subst (λ n. row_of line < 2 ^ n) (eqb-true _ _ (and_parts _ _ h).0) (set_below-lt (length line) _)
 

@@ -1,4 +1,5 @@
-pub mod Parts
+pub mod PriceLaws
+pub mod PriceTexts
 pub mod HeadLaws
 pub mod RowLaws
 pub mod LineLaws
@@ -7,5 +8,6 @@ pub mod RowTexts
 pub mod HeadTexts
 pub mod Spelling
 pub mod Readings
+pub mod FaultLaws
 pub mod LayoutLaws
 pub mod Worked

@@ -86,3 +86,11 @@ good-line form kind (line ∷ next ∷ more) e = record { formed = go (form line
     go : (t : Bool) → cond t None (Some kind) ≡ None → t ≡ true
     go true h = refl
     go false h = absurd (some_none _ h)
+
+-- a line with its line feed that has its form
+pub good-fault : (form : List ℕ → Bool) (kind : LineKind) (text : List (List ℕ)) → 1 < length text → form (line_at text 0) ≡ true
+    → line_fault form kind text ≡ None
+unfolding line_fault
+good-fault form kind [] more h = absurd (omega (arith, more))
+good-fault form kind (line ∷ []) more h = absurd (omega (arith, more))
+good-fault form kind (line ∷ next ∷ rest) more h = ap (λ t. cond t None (Some kind)) h

@@ -2,11 +2,11 @@
 use Rattle.std.proofs.Common.{◌≡◌, [], ◌∷◌, Ok, Err, codes, refl}
 use Rattle.std.specs.Fmt.{digits}
 use Rattle.mr_bits.specs.declared.errors.What.TheVariants.{Symbols, Columns}
-use Rattle.mr_form.specs.declared.faults.LineKind.TheVariants.{Missing, NoEnd, Head, Row, Extra}
+use Rattle.mr_form.specs.declared.faults.LineKind.TheVariants.{Missing, NoEnd, Head, Price, Row, Extra}
 use Rattle.mr_form.specs.declared.faults.MatrixFault.TheVariants.{Bad, Large as TooLarge}
 use Rattle.mr_text.specs.Numbers.{is_number, number_of}
 use Rattle.mr_model.specs.Sets.{set_below, sum, any_below, find_below}
-use Rattle.mr_form.specs.MatrixText.{head_text, row_text, matrix_text, line_fault, is_end, size_of, head_of, are_bits, is_row, ones_below, matrix_of}
+use Rattle.mr_form.specs.MatrixText.{head_text, price_text, row_text, matrix_text, line_fault, is_end, size_of, head_of, is_price_line, are_bits, is_row, ones_below, matrix_of}
 use Rattle.mr_form.specs.Layouts.{cells, data_rows, with_parity, rdp_rows, evenodd_rows}
 
 -- ---- the makers: of the data symbols s0 to s3, s4 = s0 + s2, s5 = s1 + s3, s6 = s0 + s1 + s3 and s7 = s1 + s2
@@ -69,3 +69,37 @@ module _ where
   one_row_more : matrix_of (codes "matrix 1 2 1 2\n10\n11\n11\n") ≡ Err (Bad 4 Extra)
   unfolding matrix_of line_fault head_of size_of number_of is_number is_end is_row are_bits find_below any_below
   one_row_more = refl
+
+  -- ---- version 2
+
+  priced : matrix_of (codes "matrix 2 2 1 2\nprice 3 1\n10\n11\n") ≡ Ok (record { devices = 2; symbols_per_device = 1; columns = 2; rows = 1 ∷ 3 ∷ []; prices = 3 ∷ 1 ∷ [] })
+  unfolding matrix_of line_fault head_of size_of number_of is_number is_price_line is_end is_row are_bits ones_below set_below find_below any_below
+  priced = refl
+
+  priced_spelled : matrix_text (record { devices = 2; symbols_per_device = 1; columns = 2; rows = 1 ∷ 3 ∷ []; prices = 3 ∷ 1 ∷ [] }) ≡ codes "matrix 2 2 1 2\nprice 3 1\n10\n11\n"
+  unfolding matrix_text head_text price_text row_text digits
+  priced_spelled = refl
+
+  all_ones : matrix_of (codes "matrix 2 2 1 2\nprice 1 1\n10\n11\n") ≡ Err (Bad 2 Price)
+  unfolding matrix_of line_fault head_of size_of number_of is_number is_price_line
+  all_ones = refl
+
+  zero_price : matrix_of (codes "matrix 2 2 1 2\nprice 3 0\n10\n11\n") ≡ Err (Bad 2 Price)
+  unfolding matrix_of line_fault head_of size_of number_of is_number is_price_line
+  zero_price = refl
+
+  great_price : matrix_of (codes "matrix 2 2 1 2\nprice 3 1001\n10\n11\n") ≡ Err (Bad 2 Price)
+  unfolding matrix_of line_fault head_of size_of number_of is_number is_price_line
+  great_price = refl
+
+  few_prices : matrix_of (codes "matrix 2 2 1 2\nprice 3\n10\n11\n") ≡ Err (Bad 2 Price)
+  unfolding matrix_of line_fault head_of size_of number_of is_number is_price_line
+  few_prices = refl
+
+  priced_row : matrix_of (codes "matrix 2 2 1 2\nprice 3 1\n10\n1\n") ≡ Err (Bad 4 Row)
+  unfolding matrix_of line_fault head_of size_of number_of is_number is_price_line is_row are_bits find_below any_below
+  priced_row = refl
+
+  priced_more : matrix_of (codes "matrix 2 2 1 2\nprice 3 1\n10\n11\n1") ≡ Err (Bad 5 Extra)
+  unfolding matrix_of line_fault head_of size_of number_of is_number is_price_line is_end is_row are_bits find_below any_below
+  priced_more = refl

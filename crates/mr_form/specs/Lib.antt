@@ -1,2 +1,3 @@
 pub mod MatrixText
+pub mod FirstFaults
 pub mod Layouts

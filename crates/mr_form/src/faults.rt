@@ -10,9 +10,13 @@ pub enum LineKind {
     /// Bytes are left there, and none of them is a line feed.
     #[error("noend")]
     NoEnd,
-    /// Line 1 is not `matrix 1 n w k` with three numbers of at least 1.
+    /// Line 1 is not `matrix 1 n w k` or `matrix 2 n w k` with three numbers of at least 1.
     #[error("head")]
     Head,
+    /// Line 2 of version 2 is not `price` and a price from 1 to 1,000 for each device, not all of
+    /// them 1.
+    #[error("price")]
+    Price,
     /// A row is not as many bytes `0` and `1` as there are columns.
     #[error("row")]
     Row,

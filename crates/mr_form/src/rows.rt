@@ -1,11 +1,13 @@
 ghost use Rattle.std.specs.Prelude.{◌≡◌, ◌≤◌, Some, None, if◌then◌else◌};
+ghost use Rattle.mr_model.specs.Code.{most_columns};
 ghost use Rattle.mr_form.specs.MatrixText.{is_row, row_of};
 
 use mr_bits::Mask;
 
-/// The columns at which a line of `columns` bytes `0` and `1` has a `1`, or None where it is no such line.
+/// The columns at which a line of `columns` bytes `0` and `1` has a `1`, or None where it is no
+/// such line.
 pub fn read_row(line: &[u8], columns: u32) -> Option<Mask>
-    requires { columns ≤ 128 }
+    requires { columns ≤ most_columns }
     ensures { result ≡ (if is_row columns line.now then Some (row_of line.now) else None) }
 {
     if line.len() != columns as usize {
