@@ -108,7 +108,7 @@ needed-turn u s i k rs r low here is before =
 
 -- ---- no fault is the same as valid
 
-both_none : (a b : Option Wrong) → fault_or a b ≡ None → (a ≡ None) × (b ≡ None)
+pub both_none : (a b : Option Wrong) → fault_or a b ≡ None → (a ≡ None) × (b ≡ None)
 both_none None b e = (refl, e)
 both_none (Some w) b e = cc
 
@@ -143,7 +143,7 @@ within-survivors m lost set e = ap (option_map (wrong NotSurvivor)) (none_fails 
     has-true (survivors m lost) i (omega (arith, member, true-within set (survivors m lost) e i, bit_at-lt (survivors m lost) i))))
 
 -- one recipe for each lost symbol
-expected_none : (t s : ℕ) → expected_fault (Some t) s ≡ None → t ≡ s
+pub expected_none : (t s : ℕ) → expected_fault (Some t) s ≡ None → t ≡ s
 expected_none t s e = eqb-true t s (true_from_ne_false (t == s) (λ apart. go (t == s) (nat_lt t s) apart e))
   where
     go : (b c : Bool) → b ≡ false → cond b None (cond c (Some (wrong Missing t)) (Some (wrong Stray s))) ≡ None → ⊥
@@ -167,7 +167,7 @@ same-symbols (t ∷ ts) = none_both (expected_fault (Some t) t) (symbol_fault ts
     (ap (λ b. cond b None (cond (nat_lt t t) (Some (wrong Missing t)) (Some (wrong Stray t)))) (eq-eqb t t refl)) (same-symbols ts)
 
 -- each recipe within the set, and an equation
-recipe_parts : (within_set sums : Bool) (w v : Wrong) → cond (not within_set) (Some w) (cond (not sums) (Some v) None) ≡ None → (within_set ≡ true) × (sums ≡ true)
+pub recipe_parts : (within_set sums : Bool) (w v : Wrong) → cond (not within_set) (Some w) (cond (not sums) (Some v) None) ≡ None → (within_set ≡ true) × (sums ≡ true)
 recipe_parts true true w v e = (refl, refl)
 recipe_parts true false w v e = cc
 recipe_parts false b w v e = cc
@@ -201,11 +201,11 @@ module _ (m : Code) (set : ℕ) where
       (sound-recipes rs (All-tail Inside r rs h) (All-tail Sums r rs k))
 
 -- every member needed
-any_bits : (i : ℕ) (rs : List Recipe) → is_needed rs i ≡ true → Any (λ r. bit_at r.equation i ≡ 1) rs
+pub any_bits : (i : ℕ) (rs : List Recipe) → is_needed rs i ≡ true → Any (λ r. bit_at r.equation i ≡ 1) rs
 any_bits i rs e = let found = Any-from_list_any (λ (r : Recipe). has r.equation i) rs e in
     (found.0, found.1, found.2, found.3, true-has found.1.equation i found.4)
 
-bits_any : (i : ℕ) (rs : List Recipe) → Any (λ r. bit_at r.equation i ≡ 1) rs → is_needed rs i ≡ true
+pub bits_any : (i : ℕ) (rs : List Recipe) → Any (λ r. bit_at r.equation i ≡ 1) rs → is_needed rs i ≡ true
 bits_any i rs h = list_any-from_Any (λ (r : Recipe). has r.equation i) rs (h.0, h.1, h.2, h.3, has-true h.1.equation i h.4)
 
 pub valid-sound : (m : Code) (lost : ℕ) (plan : PlanParts) → first_fault m lost plan ≡ None → IsValidPlan m (survivors m lost) lost plan.set plan.recipes

@@ -12,8 +12,9 @@ use Rattle.mr_model.specs.Plans.{Recipe}
 use Rattle.mr_plan.specs.declared.errors.PlanLine.{PlanLine}
 use Rattle.mr_plan.specs.Plans.{PlanParts, AreUpward, IsPlan}
 use Rattle.mr_plan.specs.PlanText.{head_text, set_text, recipe_text, line_of, plan_text}
-use Rattle.mr_plan.specs.Readings.{pieces, recipe_of, ◌>>=◌, bad_line, next_line, is_over, read_recipes, read_plan}
-use Rattle.mr_plan.proofs.Pieces.{pieces-some}
+use Rattle.mr_text.specs.Lines.{pieces}
+use Rattle.mr_plan.specs.Readings.{recipe_of, ◌>>=◌, bad_line, next_line, is_over, read_recipes, read_plan}
+use Rattle.mr_text.proofs.LineLaws.{pieces-some}
 use Rattle.mr_plan.proofs.ReadLaws.{is_over-pieces, no_head, no_second, no_recipes}
 use Rattle.mr_plan.proofs.LineLaws.{Without, set_of-printed, recipe_of-printed, kind_of-printed}
 use Rattle.mr_plan.proofs.PlanReadLaws.{head-without, set-without, recipe-without, line-first, line_of_recipe, not_end, next_more}

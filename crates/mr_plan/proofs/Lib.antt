@@ -3,9 +3,10 @@ pub mod PlanLaws
 pub mod TextLaws
 pub mod FourParts
 pub mod CheckLaws
-pub mod Pieces
+pub mod FaultLaws
 pub mod ReadLaws
 pub mod SpellLaws
 pub mod LineLaws
 pub mod PlanReadLaws
+pub mod FirstBadLaws
 pub mod CutLaws

@@ -19,9 +19,10 @@ use Rattle.mr_plan.specs.declared.kinds.Kind.{Kind}
 use Rattle.mr_plan.specs.declared.kinds.Kind.TheVariants.{Least, Spent, Given}
 use Rattle.mr_plan.specs.Plans.{IsNext}
 use Rattle.mr_plan.specs.PlanText.{member_text, members_text, head_text, set_text, recipe_text}
-use Rattle.mr_plan.specs.Readings.{pieces, symbol_of, set_of_words, set_after, recipe_of_words, kind_of, set_of, recipe_of}
+use Rattle.mr_text.specs.Lines.{pieces}
+use Rattle.mr_plan.specs.Readings.{symbol_of, set_of_words, set_after, recipe_of_words, kind_of, set_of, recipe_of}
 use Rattle.mr_plan.proofs.MemberLists.{members-All}
-use Rattle.mr_plan.proofs.Pieces.{pieces-same}
+use Rattle.mr_text.proofs.LineLaws.{pieces-same}
 use Rattle.mr_plan.proofs.SpellLaws.{IsSymbol, symbol-read, symbol-printed, set-read, set-printed}
 
 -- ---- bytes that do not occur
@@ -70,7 +71,7 @@ recipe_words r small low =
 pub bytes_same : (xs ys : List ℕ) → bytes_eq xs ys ≡ true → xs ≡ ys
 bytes_same xs ys e = (bytes_eq-Decides xs ys).0 e
 
-same_bytes : (xs : List ℕ) → bytes_eq xs xs ≡ true
+pub same_bytes : (xs : List ℕ) → bytes_eq xs xs ≡ true
 same_bytes xs = (bytes_eq-Decides xs xs).1 refl
 
 -- what the words say of the set

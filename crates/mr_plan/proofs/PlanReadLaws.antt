@@ -16,8 +16,9 @@ use Rattle.mr_plan.specs.declared.kinds.Kind.{Kind}
 use Rattle.mr_plan.specs.declared.kinds.Kind.TheVariants.{Least, Spent, Given}
 use Rattle.mr_plan.specs.Plans.{PlanParts, IsNext, AreUpward, IsPlan}
 use Rattle.mr_plan.specs.PlanText.{members_text, head_text, set_text, recipe_text, line_of, plan_text}
-use Rattle.mr_plan.specs.Readings.{pieces, symbol_of, recipe_of, kind_of, set_of, ◌>>=◌, bad_line, next_line, is_over, read_recipes, read_plan}
-use Rattle.mr_plan.proofs.Pieces.{pieces-same}
+use Rattle.mr_text.specs.Lines.{pieces}
+use Rattle.mr_plan.specs.Readings.{symbol_of, recipe_of, kind_of, set_of, ◌>>=◌, bad_line, next_line, is_over, read_recipes, read_plan}
+use Rattle.mr_text.proofs.LineLaws.{pieces-same}
 use Rattle.mr_plan.proofs.ReadLaws.{next-is, over-is, from_recipes, from_set, from_second, from_head, all_read}
 use Rattle.mr_plan.proofs.LineLaws.{bytes_same, Without, IsRecipeLine, decimal-without, members-without, members-low, set_of-read, set_of-printed, recipe_of-read, recipe_of-printed, kind_of-read, kind_of-printed}
 
@@ -155,7 +156,7 @@ bound : {A B : Type 0} (r : Result A PlanLine) (next : A → Result B PlanLine) 
 bound (Ok a) next b e = record { value = a; was = refl; later = e }
 bound (Err f) next b e = cc
 
-some_of : {X : Type 0} (o : Option X) (f : PlanLine) (x : X) → ok_or o f ≡ Ok x → o ≡ Some x
+pub some_of : {X : Type 0} (o : Option X) (f : PlanLine) (x : X) → ok_or o f ≡ Ok x → o ≡ Some x
 some_of None f x e = cc
 some_of (Some y) f x e = let same : y ≡ x = cc in ap Some same
 

@@ -1,6 +1,6 @@
 -- The steps of reading, against what is read in all.
 use Rattle.std.proofs.Common.{◌≡◌, ℕ, ◌+◌, ◌^◌, ◌<◌, ◌≤◌, ◌==◌, Bool, true, false, cond, Bor, List, [], ◌∷◌, ◌++◌, length, Option, Some, None, Ok, Err, codes, bit_or, refl, sym, ap, ap₂, ◌∙◌, arith}
-use Rattle.std.specs.Prelude.{Result, option_copied, option_and_then, IfSome}
+use Rattle.std.specs.Prelude.{Result, option_copied, option_and_then, IfOk, IfSome, MatchOption, MatchResult}
 use Rattle.std.specs.Option.{option_map, ok_or}
 use Rattle.std.specs.Str.{bytes_eq}
 use Rattle.std.proofs.lemmas.Bool.{and_parts, eqb-true, ne_eqb}
@@ -8,10 +8,11 @@ use Rattle.std.proofs.lemmas.Nat.Bits.{bit_at-zero, bit_at_or, same_from_bits}
 use Rattle.std.proofs.lemmas.List.{append_assoc, length-append}
 use Rattle.mr_model.specs.Plans.{Recipe}
 use Rattle.mr_plan.specs.declared.errors.PlanLine.{PlanLine}
-use Rattle.mr_plan.specs.Readings.{pieces, more_pieces, symbol_of, set_of_words, set_after, recipe_of_words, recipe_of, ◌>>=◌, bad_line, next_line, is_over, read_recipes, kind_of, set_of, read_plan}
+use Rattle.mr_text.specs.Lines.{pieces}
+use Rattle.mr_plan.specs.Readings.{words_of, symbol_of, set_of_words, set_after, recipe_of_words, recipe_of, ◌>>=◌, bad_line, next_line, is_over, read_recipes, kind_of, set_of, read_plan}
 use Rattle.mr_plan.specs.declared.kinds.Kind.{Kind}
 use Rattle.mr_plan.specs.Plans.{PlanParts}
-use Rattle.mr_plan.proofs.Pieces.{pieces-same, pieces-some}
+use Rattle.mr_text.proofs.LineLaws.{pieces-same, pieces-some}
 
 -- a list of no items is empty
 pub empty_list : {X : Type 0} (xs : List X) → length xs ≡ 0 → xs ≡ []
@@ -40,10 +41,10 @@ left_shorter text (Some bytes) h = omega (arith, h)
 
 -- the set in all is what is read so far with that of the words left
 abbrev pub IsSoFar : Option ℕ → ℕ → ℕ → Option (Bor (List ℕ)) → Type 0
-IsSoFar all set least left = all ≡ option_map (bit_or set) (set_of_words least (more_pieces 32 (option_copied left)))
+IsSoFar all set least left = all ≡ option_map (bit_or set) (set_of_words least (words_of (option_copied left)))
 
-pub so_far-start : (left : Option (Bor (List ℕ))) → IsSoFar (set_of_words 0 (more_pieces 32 (option_copied left))) 0 0 left
-so_far-start left = go (set_of_words 0 (more_pieces 32 (option_copied left)))
+pub so_far-start : (left : Option (Bor (List ℕ))) → IsSoFar (set_of_words 0 (words_of (option_copied left))) 0 0 left
+so_far-start left = go (set_of_words 0 (words_of (option_copied left)))
   where
     go : (o : Option ℕ) → o ≡ option_map (bit_or 0) o
     go None = refl
@@ -51,15 +52,15 @@ so_far-start left = go (set_of_words 0 (more_pieces 32 (option_copied left)))
 
 pub so_far-end : (all : Option ℕ) (set least : ℕ) (left : Option (Bor (List ℕ))) → IsSoFar all set least left → left ≡ None → Some set ≡ all
 unfolding set_of_words
-so_far-end all set least left h e = sym (h ∙ ap (λ l. option_map (bit_or set) (set_of_words least (more_pieces 32 (option_copied l)))) e ∙ ap Some (or_nothing set))
+so_far-end all set least left h e = sym (h ∙ ap (λ l. option_map (bit_or set) (set_of_words least (words_of (option_copied l)))) e ∙ ap Some (or_nothing set))
 
 -- the words left begin with a word
 words_left : (set least : ℕ) (left : Option (Bor (List ℕ))) (text : Bor (List ℕ)) (word : List ℕ) (words : List (List ℕ)) (o : Option ℕ)
     → left ≡ Some text → pieces 32 text.now ≡ word ∷ words → o ≡ symbol_of least word
-    → set_of_words least (more_pieces 32 (option_copied left)) ≡ option_and_then (λ n. option_map (bit_or (2 ^ n)) (set_of_words (n + 1) words)) o
+    → set_of_words least (words_of (option_copied left)) ≡ option_and_then (λ n. option_map (bit_or (2 ^ n)) (set_of_words (n + 1) words)) o
 unfolding set_of_words
 words_left set least left text word words o e cut is =
-    ap (λ l. set_of_words least (more_pieces 32 (option_copied l))) e ∙ ap (set_of_words least) cut
+    ap (λ l. set_of_words least (words_of (option_copied l))) e ∙ ap (set_of_words least) cut
     ∙ ap (option_and_then (λ n. option_map (bit_or (2 ^ n)) (set_of_words (n + 1) words))) (sym is)
 
 -- a word that is no symbol
@@ -70,11 +71,11 @@ so_far-bad all set least left text word words h e cut is =
 
 -- a word that is a symbol
 pub so_far-turn : (all : Option ℕ) (set least : ℕ) (left : Option (Bor (List ℕ))) (text : Bor (List ℕ)) (word : List ℕ) (rest : Option (Bor (List ℕ))) (n : ℕ)
-    → IsSoFar all set least left → left ≡ Some text → pieces 32 text.now ≡ word ∷ more_pieces 32 (option_copied rest) → Some n ≡ symbol_of least word
+    → IsSoFar all set least left → left ≡ Some text → pieces 32 text.now ≡ word ∷ words_of (option_copied rest) → Some n ≡ symbol_of least word
     → IsSoFar all (bit_or set (2 ^ n)) (n + 1) rest
 so_far-turn all set least left text word rest n h e cut is =
-    h ∙ ap (option_map (bit_or set)) (words_left set least left text word (more_pieces 32 (option_copied rest)) (Some n) e cut is)
-    ∙ joined (set_of_words (n + 1) (more_pieces 32 (option_copied rest)))
+    h ∙ ap (option_map (bit_or set)) (words_left set least left text word (words_of (option_copied rest)) (Some n) e cut is)
+    ∙ joined (set_of_words (n + 1) (words_of (option_copied rest)))
   where
     joined : (o : Option ℕ) → option_map (bit_or set) (option_map (bit_or (2 ^ n)) o) ≡ option_map (bit_or (bit_or set (2 ^ n))) o
     joined None = refl
@@ -90,6 +91,18 @@ next-some line bytes text rest e =
 pub next-none : (line : ℕ) (bytes text : List ℕ) → pieces 10 bytes ≡ text ∷ [] → next_line line (pieces 10 bytes) ≡ Err (bad_line line)
 unfolding next_line
 next-none line bytes text e = ap (next_line line) e
+
+-- a text that is split at its first line feed, or that has none
+pub next-split : (line : ℕ) (bytes : List ℕ) (split : Option (Bor (List ℕ) × Bor (List ℕ))) (answer : Result (Bor (List ℕ) × Bor (List ℕ)) PlanLine)
+    → MatchOption split (pieces 10 bytes ≡ bytes ∷ []) (λ parts. pieces 10 bytes ≡ parts.0.now ∷ pieces 10 parts.1.now) → answer ≡ ok_or split (bad_line line)
+    → MatchResult answer (λ parts. next_line line (pieces 10 bytes) ≡ Ok (parts.0.now, pieces 10 parts.1.now)) (λ e. next_line line (pieces 10 bytes) ≡ Err e)
+next-split line bytes None answer h is = rw is (next-none line bytes bytes h)
+next-split line bytes (Some parts) answer h is = rw is (next-some line bytes parts.0.now parts.1.now h)
+
+pub shorter-split : (line : ℕ) (bytes : List ℕ) (split : Option (Bor (List ℕ) × Bor (List ℕ))) (answer : Result (Bor (List ℕ) × Bor (List ℕ)) PlanLine)
+    → IfSome split (λ parts. length parts.1.now < length bytes) → answer ≡ ok_or split (bad_line line) → IfOk answer (λ parts. length parts.1.now < length bytes)
+shorter-split line bytes None answer h is = rw is tt
+shorter-split line bytes (Some parts) answer h is = rw is h
 
 -- what the next line says of the lines
 pub record IsNextLine (first : List ℕ) (left lines : List (List ℕ)) : Type 0 where

@@ -21,12 +21,14 @@ fault_or None later = later
 
 -- the least member of the set that does not survive
 abbrev pub survivor_fault : Code → ℕ → ℕ → Option Wrong
-survivor_fault m lost set = option_map (wrong NotSurvivor) (find_member set (λ i. not (has (survivors m lost) i)))
+survivor_fault m lost set =
+    option_map (wrong NotSurvivor) (find_member set (λ i. not (has (survivors m lost) i)))
 
 -- what is wrong with the symbol s of a recipe where the lost symbol at its place is expected, if there is one
 abbrev pub expected_fault : Option ℕ → ℕ → Option Wrong
 expected_fault None s = Some (wrong Stray s)
-expected_fault (Some t) s = if t == s then None else if nat_lt t s then Some (wrong Missing t) else Some (wrong Stray s)
+expected_fault (Some t) s =
+    if t == s then None else if nat_lt t s then Some (wrong Missing t) else Some (wrong Stray s)
 
 -- the first place at which the lost symbols and the symbols of the recipes differ
 unfoldable pub symbol_fault : List ℕ → List ℕ → Option Wrong
@@ -53,7 +55,8 @@ is_needed recipes i = list_any (λ r. has r.equation i) recipes
 
 -- the least member of the set that stands in no recipe
 abbrev pub spare_fault : ℕ → List Recipe → Option Wrong
-spare_fault set recipes = option_map (wrong Spare) (find_member set (λ i. not (is_needed recipes i)))
+spare_fault set recipes =
+    option_map (wrong Spare) (find_member set (λ i. not (is_needed recipes i)))
 
 -- the first fault of a plan
 abbrev pub first_fault : Code → ℕ → PlanParts → Option Wrong

@@ -1,10 +1,10 @@
 -- The text of a plan.
-use Rattle.std.specs.Prelude.{ℕ, List, [], ◌∷◌, ◌++◌, flat_map, codes, decimal}
+use Rattle.std.specs.Prelude.{◌≡◌, ℕ, List, [], ◌∷◌, ◌++◌, flat_map, codes, decimal}
 use Rattle.mr_model.specs.Members.{members}
 use Rattle.mr_model.specs.Plans.{Recipe}
 use Rattle.mr_plan.specs.declared.kinds.Kind.{Kind}
 use Rattle.mr_plan.specs.declared.kinds.Kind.TheVariants.{Least, Spent, Given}
-use Rattle.mr_plan.specs.Plans.{PlanParts}
+use Rattle.mr_plan.specs.Plans.{PlanParts, IsPlan}
 
 -- the word of a kind
 abbrev pub kind_text : Kind → List ℕ
@@ -38,3 +38,9 @@ line_of text = text ++ 10 ∷ []
 unfoldable pub plan_text : PlanParts → List ℕ
 plan_text p = line_of (head_text p.kind) ++ line_of (set_text p.set)
     ++ flat_map (λ r. line_of (recipe_text r)) p.recipes ++ line_of (codes "end")
+
+-- the text is that of a plan
+pub record IsPlanText (text : List ℕ) : Type 0 where
+  pub plan : PlanParts
+  pub is_plan : IsPlan plan
+  pub spelled : text ≡ plan_text plan

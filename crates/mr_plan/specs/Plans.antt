@@ -42,4 +42,5 @@ recipe_in m set t = record { symbol = t; equation = recipe m set t }
 
 -- the plan that reads the set for the lost symbols
 abbrev pub plan_of : Code → ℕ → ℕ → Kind → PlanParts
-plan_of m lost set kind = record { kind = kind; set = set; recipes = map (recipe_in m set) (members lost) }
+plan_of m lost set kind =
+    record { kind = kind; set = set; recipes = map (recipe_in m set) (members lost) }

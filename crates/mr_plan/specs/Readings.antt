@@ -1,9 +1,9 @@
 -- The reading of a plan from its text: word by word in a line, line by line in the text, with the first bad line.
 use Rattle.std.specs.Prelude.{ℕ, ◌+◌, ◌^◌, ◌==◌, ◌&&◌, Bool, false, nat_lt, nat_le, List, [], ◌∷◌, length, bit_or, codes, Option, Some, None, Result, Ok, Err, option_and_then, if◌then◌else◌}
 use Rattle.std.specs.Option.{option_map, ok_or}
-use Rattle.std.specs.List.{slice_split}
 use Rattle.std.specs.Str.{bytes_eq}
 use Rattle.mr_model.specs.Plans.{Recipe}
+use Rattle.mr_text.specs.Lines.{pieces}
 use Rattle.mr_text.specs.Numbers.{number_of}
 use Rattle.mr_plan.specs.declared.errors.PlanLine.{PlanLine}
 use Rattle.mr_plan.specs.declared.kinds.Kind.{Kind}
@@ -11,27 +11,26 @@ use Rattle.mr_plan.specs.declared.kinds.Kind.TheVariants.{Least, Spent, Given}
 use Rattle.mr_plan.specs.Plans.{PlanParts}
 use Rattle.mr_plan.specs.PlanText.{head_text}
 
--- ---- lines and words
+-- ---- words
 
--- what stands between the bytes `at`: the lines of a text, of which the last has no line feed, or the words of a line
-abbrev pub pieces : ℕ → List ℕ → List (List ℕ)
-pieces at bytes = slice_split (λ b. b == at) bytes
-
--- the same, where there may be no bytes left
-abbrev pub more_pieces : ℕ → Option (List ℕ) → List (List ℕ)
-more_pieces at None = []
-more_pieces at (Some bytes) = pieces at bytes
+-- the words that are left, by single spaces: none where no bytes are
+abbrev pub words_of : Option (List ℕ) → List (List ℕ)
+words_of None = []
+words_of (Some bytes) = pieces 32 bytes
 
 -- ---- one line
 
 -- the number of a symbol, from `least` to 127
 unfoldable pub symbol_of : ℕ → List ℕ → Option ℕ
-symbol_of least word = option_and_then (λ n. if nat_le least n && nat_lt n 128 then Some n else None) (number_of word)
+symbol_of least word =
+    option_and_then (λ n. if nat_le least n && nat_lt n 128 then Some n else None) (number_of word)
 
 -- the set of the symbols that these words are, strictly upwards from `least` on
 unfoldable pub set_of_words : ℕ → List (List ℕ) → Option ℕ
 set_of_words least [] = Some 0
-set_of_words least (word ∷ words) = option_and_then (λ n. option_map (bit_or (2 ^ n)) (set_of_words (n + 1) words)) (symbol_of least word)
+set_of_words least (word ∷ words) =
+    option_and_then (λ n. option_map (bit_or (2 ^ n)) (set_of_words (n + 1) words))
+    (symbol_of least word)
 
 -- a word, and then the symbols of a set
 abbrev pub set_after : List ℕ → List (List ℕ) → Option ℕ
@@ -42,7 +41,9 @@ set_after word (first ∷ words) = if bytes_eq first word then set_of_words 0 wo
 abbrev pub recipe_of_words : ℕ → List (List ℕ) → Option Recipe
 recipe_of_words least [] = None
 recipe_of_words least (first ∷ words) =
-    option_and_then (λ symbol. option_map (λ set. record { symbol = symbol; equation = set }) (set_after (codes "=") words)) (symbol_of least first)
+    option_and_then (λ symbol.
+    option_map (λ set. record { symbol = symbol; equation = set }) (set_after (codes "=") words))
+    (symbol_of least first)
 
 -- what the lines say: the first, that of the set, and that of a recipe behind the recipes of symbols below `least`
 unfoldable pub kind_of : List ℕ → Option Kind
@@ -83,7 +84,8 @@ unfoldable pub read_recipes : ℕ → ℕ → List (List ℕ) → Result (List R
 read_recipes line least [] = Err (bad_line line)
 read_recipes line least (first ∷ left) =
     if length left == 0 then Err (bad_line line)
-    else if bytes_eq first (codes "end") then (if is_over left then Ok [] else Err (bad_line (line + 1)))
+    else if bytes_eq first (codes "end")
+    then (if is_over left then Ok [] else Err (bad_line (line + 1)))
     else (ok_or (recipe_of least first) (bad_line line) >>= λ recipe.
     read_recipes (line + 1) (recipe.symbol + 1) left >>= λ recipes. Ok (recipe ∷ recipes))
 

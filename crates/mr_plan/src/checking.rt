@@ -1,11 +1,12 @@
 //! The checker of plans.
 
-ghost use Rattle.std.specs.Prelude.{◌≡◌, ◌↔◌, ℕ, ◌^◌, ◌<◌, not, map, length, All, IsOk};
+ghost use Rattle.std.specs.Prelude.{◌≡◌, ◌↔◌, ℕ, ◌^◌, ◌<◌, not, map, length, All, IsOk, IfErr};
 ghost use Rattle.std.specs.Option.{option_map};
 ghost use Rattle.mr_model.specs.Sets.{has, find_member};
 ghost use Rattle.mr_model.specs.Members.{members};
 ghost use Rattle.mr_model.specs.Plans.{IsValidPlan};
 ghost use Rattle.mr_plan.specs.Plans.{survivors};
+ghost use Rattle.mr_plan.specs.Faults.{IsFirstFault};
 ghost use Rattle.mr_plan.specs.Checks.{first_fault, survivor_fault, symbol_fault, recipes_fault, recipe_fault, spare_fault, expected_fault, is_needed, sound_unless};
 
 use crate::errors::{Why, Wrong};
@@ -17,11 +18,12 @@ use mr_bits::{Mask, Matrix};
 ///
 /// It answers the first fault in this order, with its symbol: the least member of the set that is no survivor; the
 /// first place at which the lost symbols and the recipes' symbols differ; the first recipe that has a source outside
-/// the set or does not add up to the row of its symbol; the least member of the set that stands in no recipe.
-/// Takes no memory.
+/// the set or does not add up to the row of its symbol; the least member of the set that stands in no recipe. What
+/// comes before it in the order holds. Takes no memory.
 pub fn check(matrix: &Matrix, lost: Mask, plan: &Plan) -> Result<(), Wrong>
     requires { lost < 2 ^ length matrix.now.rows }
     ensures first { result ≡ sound_unless (first_fault matrix.now lost plan.now) }
+    ensures fault { IfErr result (IsFirstFault matrix.now lost plan.now) }
     ensures valid { IsOk result
         ↔ IsValidPlan matrix.now (survivors matrix.now lost) lost plan.now.set plan.now.recipes }
 {
@@ -55,7 +57,8 @@ fn check_survivors(matrix: &Matrix, lost: Mask, set: Mask) -> Result<(), Wrong>
 
 /// Whether there is one recipe for each lost symbol, upwards.
 fn check_symbols(lost: Mask, recipes: &[Recipe]) -> Result<(), Wrong>
-    ensures { result ≡ sound_unless (symbol_fault (members lost) (map (λ r. r.symbol) recipes.now)) }
+    ensures { result
+        ≡ sound_unless (symbol_fault (members lost) (map (λ r. r.symbol) recipes.now)) }
 {
     let mut expected = lost.symbols();
     for recipe in recipes {

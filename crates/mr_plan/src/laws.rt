@@ -4,14 +4,16 @@ ghost use Rattle.std.specs.Prelude.{◌≡◌, ℕ, ◌+◌, ◌<◌, List, ◌+
 ghost use Rattle.mr_plan.specs.declared.errors.PlanLine.{PlanLine};
 ghost use Rattle.mr_plan.specs.Plans.{PlanParts, IsPlan};
 ghost use Rattle.mr_plan.specs.PlanText.{plan_text};
-ghost use Rattle.mr_plan.specs.Readings.{bad_line, pieces, read_plan};
+ghost use Rattle.mr_text.specs.Lines.{pieces};
+ghost use Rattle.mr_plan.specs.Readings.{bad_line, read_plan};
 
 /// Printing and reading are inverse: the text of a plan is read as that plan, what is read as a plan is the text of
 /// that plan, and two plans with one text are one.
 pub fn printing_and_reading_are_inverse()
     ensures read_back { (plan : PlanParts) → IsPlan plan → read_plan (plan_text plan) ≡ Ok plan }
     ensures plan { (bytes : List ℕ) (plan : PlanParts) → read_plan bytes ≡ Ok plan → IsPlan plan }
-    ensures spelled { (bytes : List ℕ) (plan : PlanParts) → read_plan bytes ≡ Ok plan → bytes ≡ plan_text plan }
+    ensures spelled { (bytes : List ℕ) (plan : PlanParts)
+        → read_plan bytes ≡ Ok plan → bytes ≡ plan_text plan }
     ensures one_text { (p q : PlanParts) → IsPlan p → IsPlan q → plan_text p ≡ plan_text q → p ≡ q }
 {}
 
@@ -19,7 +21,8 @@ pub fn printing_and_reading_are_inverse()
 /// behind its end at the line behind it.
 pub fn only_whole_texts_are_read()
     ensures cut { (plan : PlanParts) (n : ℕ) → IsPlan plan → n < length (plan_text plan)
-        → read_plan (take n (plan_text plan)) ≡ Err (bad_line (length (pieces 10 (take n (plan_text plan))))) }
+        → read_plan (take n (plan_text plan))
+        ≡ Err (bad_line (length (pieces 10 (take n (plan_text plan))))) }
     ensures extended { (plan : PlanParts) (more : List ℕ) → IsPlan plan → 0 < length more
         → read_plan (plan_text plan ++ more) ≡ Err (bad_line (length plan.recipes + 4)) }
 {}

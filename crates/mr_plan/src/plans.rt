@@ -27,9 +27,11 @@ impl Model for Plan {
 
     ghost view = { λ p. record { kind = p.kind; set = p.set; recipes = p.recipes.items } };
 
-    ghost invariant = { λ p. IsPlan (record { kind = p.kind; set = p.set; recipes = p.recipes.items }) };
+    ghost invariant = { λ p.
+        IsPlan (record { kind = p.kind; set = p.set; recipes = p.recipes.items }) };
 
-    ghost inverse = { λ p. record { kind = p.kind; set = p.set; recipes = record { items = p.recipes } } };
+    ghost inverse = { λ p.
+        record { kind = p.kind; set = p.set; recipes = record { items = p.recipes } } };
 }
 
 impl Plan {
@@ -41,7 +43,8 @@ impl Plan {
         requires lost { lost < 2 ^ length matrix.now.rows }
         requires set { IsLean matrix.now (survivors matrix.now lost) lost set }
         ensures made { result ≡ plan_of matrix.now lost set kind }
-        ensures valid { IsValidPlan matrix.now (survivors matrix.now lost) lost result.set result.recipes }
+        ensures valid { IsValidPlan matrix.now (survivors matrix.now lost) lost
+            result.set result.recipes }
     {
         // Contracts see a set as a number; this call tells the proof that it is below 2^128.
         let _number = set.number();

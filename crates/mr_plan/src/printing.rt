@@ -27,7 +27,8 @@ impl Plan {
 /// Puts the lines of the recipes.
 fn put_recipes<K: Sink>(out: &mut K, recipes: &[Recipe]) -> Result<(), Failed>
     requires { AreUpward 0 recipes.now }
-    ensures puts { Puts (K.held out.old) (K.held out.new) result (flat_map (λ r. line_of (recipe_text r)) recipes.now) }
+    ensures puts { Puts (K.held out.old) (K.held out.new) result
+        (flat_map (λ r. line_of (recipe_text r)) recipes.now) }
     ensures cause { HasCause (K.faults out.old) (K.faults out.new) result }
 {
     for recipe in recipes {

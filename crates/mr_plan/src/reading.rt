@@ -1,10 +1,11 @@
 //! The reading of a plan from its text.
 
-ghost use Rattle.std.specs.Prelude.{◌≡◌, ◌+◌, ◌≤◌, ◌<◌, ◌∷◌, [], List, ℕ, length, codes, Some, Ok, Err, IfOk, IfNone, IfSome, MatchResult, option_copied, ◌==◌, position};
+ghost use Rattle.std.specs.Prelude.{◌≡◌, ◌+◌, ◌≤◌, ◌<◌, ◌∷◌, [], List, ℕ, length, codes, Some, Ok, Err, IfOk, IfErr, IfNone, IfSome, MatchResult, option_copied};
 ghost use Rattle.std.specs.Str.{bytes_eq};
 ghost use Rattle.mr_plan.specs.Plans.{PlanParts, IsPlan, AreUpward};
-ghost use Rattle.mr_plan.specs.PlanText.{plan_text};
-ghost use Rattle.mr_plan.specs.Readings.{pieces, more_pieces, symbol_of, set_of_words, set_after, kind_of, set_of, recipe_of, next_line, read_recipes, read_plan};
+ghost use Rattle.mr_plan.specs.PlanText.{plan_text, IsPlanText};
+ghost use Rattle.mr_text.specs.Lines.{pieces, IsFirstBadLine};
+ghost use Rattle.mr_plan.specs.Readings.{words_of, symbol_of, set_of_words, set_after, kind_of, set_of, recipe_of, next_line, read_recipes, read_plan};
 
 use crate::errors::PlanLine;
 use crate::kinds::Kind;
@@ -12,17 +13,20 @@ use crate::plans::Plan;
 use crate::recipes::Recipe;
 use arrayvec::ArrayVec;
 use mr_bits::Mask;
-use mr_text::read_number;
+use mr_text::{read_number, split_at_byte};
 
 impl Plan {
-    /// The plan of which `bytes` are the text, or else the first line that is not of its form.
+    /// The plan of which `bytes` are the text, or else the first line that is not of its form: the lines before it begin
+    /// the text of a plan, and with it they begin none.
     ///
-    /// A text that ends before `end`, or in the middle of a line, is refused at the line that is missing or has no line
-    /// feed, and bytes behind `end` at the line behind it. Takes no memory.
+    /// So a text that ends before `end`, or in the middle of a line, is refused at the line that is missing or has no
+    /// line feed, and bytes behind `end` at the line behind it. Takes no memory.
     pub fn read(bytes: &[u8]) -> Result<Plan, PlanLine>
         ensures value { result ≡ read_plan bytes.now }
+        ensures first_bad { IfErr result (λ fault. IsFirstBadLine IsPlanText fault.line bytes.now) }
         ensures spelled { IfOk result (λ plan. bytes.now ≡ plan_text plan) }
-        ensures read { (plan : PlanParts) → IsPlan plan → bytes.now ≡ plan_text plan → result ≡ Ok plan }
+        ensures read { (plan : PlanParts) → IsPlan plan → bytes.now ≡ plan_text plan
+            → result ≡ Ok plan }
     {
         read_lines(bytes)
     }
@@ -74,11 +78,7 @@ fn ended_line(bytes: &[u8], line: u32) -> Result<(&[u8], &[u8]), PlanLine>
         (λ e. next_line line (pieces 10 bytes.now) ≡ Err e) }
     ensures shorter { IfOk result (λ parts. length parts.1.now < length bytes.now) }
 {
-    let (text, rest) = cut(bytes, b'\n');
-    match rest {
-        Some(rest) => Ok((text, rest)),
-        None => Err(PlanLine { line }),
-    }
+    split_at_byte(bytes, b'\n').ok_or(PlanLine { line })
 }
 
 /// Whether a line is the last one.
@@ -116,7 +116,7 @@ fn read_recipe(line: &[u8], least: u8) -> Option<Recipe>
     ensures value { result ≡ recipe_of least line.now }
     ensures in_range { IfSome result (λ recipe. (least ≤ recipe.symbol) × (recipe.symbol < 128)) }
 {
-    let (first, words) = cut(line, b' ');
+    let (first, words) = first_word(line);
     let symbol = read_symbol(first, least)?;
     let sources = read_set_after(b"=", words)?;
     Some(Recipe::new(symbol, sources))
@@ -124,9 +124,9 @@ fn read_recipe(line: &[u8], least: u8) -> Option<Recipe>
 
 /// The set that words name behind the word `first`.
 fn read_set_after(first: &[u8], words: Option<&[u8]>) -> Option<Mask>
-    ensures { result ≡ set_after first.now (more_pieces 32 (option_copied words.entry)) }
+    ensures { result ≡ set_after first.now (words_of (option_copied words.entry)) }
 {
-    let (word, rest) = cut(words?, b' ');
+    let (word, rest) = first_word(words?);
     if word != first {
         return None;
     }
@@ -135,13 +135,13 @@ fn read_set_after(first: &[u8], words: Option<&[u8]>) -> Option<Mask>
 
 /// The set of the symbols that words are, strictly upwards.
 fn read_members(words: Option<&[u8]>) -> Option<Mask>
-    ensures { result ≡ set_of_words 0 (more_pieces 32 (option_copied words.entry)) }
+    ensures { result ≡ set_of_words 0 (words_of (option_copied words.entry)) }
 {
     let mut set = Mask::EMPTY;
     let mut least = 0;
     let mut left = words;
     while let Some(text) = left {
-        let (word, rest) = cut(text, b' ');
+        let (word, rest) = first_word(text);
         let symbol = read_symbol(word, least)?;
         set = set.with(symbol);
         least = symbol + 1;
@@ -162,20 +162,13 @@ fn read_symbol(word: &[u8], least: u8) -> Option<u8>
     }
 }
 
-/// What stands before the first byte `at`, and what stands behind it, if there is one.
-fn cut(bytes: &[u8], at: u8) -> (&[u8], Option<&[u8]>)
-    ensures parts { pieces at bytes.now ≡ result.0.now ∷ more_pieces at (option_copied result.1) }
-    ensures shorter { IfSome result.1 (λ rest. length rest.now < length bytes.now) }
+/// The first word, and the words behind it, if there are any.
+fn first_word(words: &[u8]) -> (&[u8], Option<&[u8]>)
+    ensures cut { pieces 32 words.now ≡ result.0.now ∷ words_of (option_copied result.1) }
+    ensures shorter { IfSome result.1 (λ rest. length rest.now < length words.now) }
 {
-    match place_of(bytes, at) {
-        Some(i) => (&bytes[..i], Some(&bytes[i + 1..])),
-        None => (bytes, None),
+    match split_at_byte(words, b' ') {
+        Some((word, rest)) => (word, Some(rest)),
+        None => (words, None),
     }
-}
-
-/// The place of the first byte `at`.
-fn place_of(bytes: &[u8], at: u8) -> Option<usize>
-    ensures { result ≡ position (λ b. b == at) bytes.now }
-{
-    bytes.iter().position(|byte| *byte == at)
 }

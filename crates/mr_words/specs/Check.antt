@@ -5,7 +5,11 @@ use Rattle.mr_words.specs.Texts.{file_of, lost_of}
 use Rattle.mr_words.specs.declared.check_words.CheckWords.{CheckWords}
 
 abbrev pub check_syntax : Syntax
-check_syntax = record { places = codes "matrix" ∷ codes "lost" ∷ codes "plan" ∷ []; valued = []; flags = [] }
+check_syntax = record {
+  places = codes "matrix" ∷ codes "lost" ∷ codes "plan" ∷ [];
+  valued = [];
+  flags = [];
+}
 
 -- what the texts of the names mean
 abbrev pub check_from : (Text → Option Text) → Option CheckWords

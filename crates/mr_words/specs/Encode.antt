@@ -5,7 +5,11 @@ use Rattle.mr_words.specs.Texts.{file_of, number_in}
 use Rattle.mr_words.specs.declared.encode_words.EncodeWords.{EncodeWords}
 
 abbrev pub encode_syntax : Syntax
-encode_syntax = record { places = codes "matrix" ∷ codes "payload" ∷ codes "stripes" ∷ codes "bytes" ∷ []; valued = []; flags = [] }
+encode_syntax = record {
+  places = codes "matrix" ∷ codes "payload" ∷ codes "stripes" ∷ codes "bytes" ∷ [];
+  valued = [];
+  flags = [];
+}
 
 -- what the texts of the names mean
 abbrev pub encode_from : (Text → Option Text) → Option EncodeWords

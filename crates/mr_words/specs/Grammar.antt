@@ -77,7 +77,8 @@ text_in given name = option_map (λ g. g.1) (find (λ g. bytes_eq g.0 name) give
 -- the name is given this text, where it has none yet
 abbrev pub give : Text → Text → Reading → Option Reading
 give name text r =
-    if has_name name r.given then None else Some (record r { given = r.given ++ (name, text) ∷ []; wants = None })
+    if has_name name r.given then None
+    else Some (record r { given = r.given ++ (name, text) ∷ []; wants = None })
 
 -- the word goes to the next place
 abbrev pub next_place : List Text → Text → Reading → Option Reading

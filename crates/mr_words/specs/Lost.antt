@@ -36,7 +36,8 @@ first_beyond devices numbers = find (nat_le devices) numbers
 
 -- the devices that are among the numbers, as a set
 abbrev pub device_set : ℕ → List ℕ → ℕ
-device_set devices numbers = set_below devices (λ device. list_any (λ number. number == device) numbers)
+device_set devices numbers =
+    set_below devices (λ device. list_any (λ number. number == device) numbers)
 
 abbrev pub beyond_or : Option ℕ → ℕ → Result ℕ ℕ
 beyond_or (Some number) set = Err number

@@ -5,7 +5,11 @@ use Rattle.mr_words.specs.Texts.{budget_of, file_of, lost_of, workers_of}
 use Rattle.mr_words.specs.declared.plan_words.PlanWords.{PlanWords}
 
 abbrev pub plan_syntax : Syntax
-plan_syntax = record { places = codes "matrix" ∷ codes "lost" ∷ []; valued = codes "workers" ∷ codes "budget" ∷ []; flags = [] }
+plan_syntax = record {
+  places = codes "matrix" ∷ codes "lost" ∷ [];
+  valued = codes "workers" ∷ codes "budget" ∷ [];
+  flags = [];
+}
 
 -- what the texts of the names mean
 abbrev pub plan_from : (Text → Option Text) → Option PlanWords

@@ -20,11 +20,13 @@ is_set (Some text) = bytes_eq text (codes "true")
 -- the matches have the texts that were given to the places and options, and the flags that were given
 abbrev pub HasTexts : Syntax → Given → ArgMatches → Type 0
 HasTexts s given m =
-    ((name : Text) → is_among name s.flags ≡ false → first_value (found_of m) name ≡ text_in given name)
+    ((name : Text) → is_among name s.flags ≡ false
+    → first_value (found_of m) name ≡ text_in given name)
     × ((name : Text) → is_set (first_value (found_of m) name) ≡ is_set (text_in given name))
 
 -- the matches are those of what the words after the first give, and Usage comes exactly where they are refused
 abbrev pub ParsesBy : Syntax → List Text → Result ArgMatches WordsError → Type 0
-ParsesBy s words (Ok m) = (given : Given) × (given_of s (drop 1 words) ≡ Some given) × HasTexts s given m
+ParsesBy s words (Ok m) =
+    (given : Given) × (given_of s (drop 1 words) ≡ Some given) × HasTexts s given m
 ParsesBy s words (Err Usage) = given_of s (drop 1 words) ≡ None
 ParsesBy s words (Err Memory) = ⊤

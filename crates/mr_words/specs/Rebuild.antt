@@ -20,7 +20,14 @@ rebuild_from text = do
   workers ← workers_of (text (codes "workers"))
   budget ← budget_of (text (codes "budget"))
   plan ← file_or_none (text (codes "plan"))
-  Some (record { matrix = matrix; image = image; lost = lost; workers = workers; budget = budget; plan = plan })
+  Some (record {
+    matrix = matrix;
+    image = image;
+    lost = lost;
+    workers = workers;
+    budget = budget;
+    plan = plan;
+  })
 
 -- what the words after `rebuild` ask
 abbrev pub rebuild_of : List Text → Option RebuildWords

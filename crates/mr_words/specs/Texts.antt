@@ -4,6 +4,7 @@ use Rattle.std.specs.List.{list_any}
 use Rattle.mr_text.specs.Numbers.{number_of}
 use Rattle.mr_words.specs.Grammar.{Text, ◌>>=◌}
 use Rattle.mr_words.specs.Lost.{is_lost_word}
+use Rattle.mr_words.specs.declared.limits.TheConstants.{BUDGET_LIMIT, DEFAULT_BUDGET, DEFAULT_WORKERS, WORKER_LIMIT}
 use Rattle.mr_words.specs.declared.code.Code.{Code}
 use Rattle.mr_words.specs.declared.code.Code.TheVariants.{Rdp, Evenodd}
 
@@ -41,17 +42,19 @@ abbrev pub number_or : ℕ → ℕ → ℕ → Option Text → Option ℕ
 number_or default low high None = Some default
 number_or default low high (Some text) = number_between low high text
 
--- the number of workers: 1 to 64, and 4 where none is given
+-- the number of workers
 abbrev pub workers_of : Option Text → Option ℕ
-workers_of = number_or 4 1 64
+workers_of = number_or DEFAULT_WORKERS 1 WORKER_LIMIT
 
--- the budget: up to 32 * 2^20, and 4 * 2^20 where none is given
+-- the budget
 abbrev pub budget_of : Option Text → Option ℕ
-budget_of = number_or 4194304 0 33554432
+budget_of = number_or DEFAULT_BUDGET 0 BUDGET_LIMIT
 
 -- the code that a maker's name is of
 abbrev pub code_named : Text → Option Code
-code_named name = if bytes_eq name (codes "rdp") then Some Rdp else (if bytes_eq name (codes "evenodd") then Some Evenodd else None)
+code_named name =
+    if bytes_eq name (codes "rdp") then Some Rdp
+    else (if bytes_eq name (codes "evenodd") then Some Evenodd else None)
 
 abbrev pub code_of : Option Text → Option Code
 code_of text = text >>= code_named

@@ -47,7 +47,11 @@ pub fn command_for<'a>(
     flags: &[&'a str],
 ) -> Result<Command<'a>, AllocError>
     ensures { IfOk result (λ command. app_of command ≡ app_for title.entry.now
-        (record { places = map (λ name. name.now) places.now; valued = map (λ name. name.now) valued.now; flags = map (λ name. name.now) flags.now })) }
+        (record {
+          places = map (λ name. name.now) places.now;
+          valued = map (λ name. name.now) valued.now;
+          flags = map (λ name. name.now) flags.now;
+        })) }
 {
     let bare = Command::new(alloc, title).disable_help_flag(true);
     let with_places = add_places(alloc, bare, places)?;
@@ -60,7 +64,8 @@ fn add_places<'a>(
     command: Command<'a>,
     names: &[&'a str],
 ) -> Result<Command<'a>, AllocError>
-    ensures { IfOk result (λ r. app_of r ≡ with_rules (app_of command.entry) (map (λ name. new_place name.now) names.now)) }
+    ensures { IfOk result (λ r. app_of r
+        ≡ with_rules (app_of command.entry) (map (λ name. new_place name.now) names.now)) }
 {
     let mut command = command;
     for name in names {
@@ -74,7 +79,8 @@ fn add_valued<'a>(
     command: Command<'a>,
     names: &[&'a str],
 ) -> Result<Command<'a>, AllocError>
-    ensures { IfOk result (λ r. app_of r ≡ with_rules (app_of command.entry) (map (λ name. new_valued name.now) names.now)) }
+    ensures { IfOk result (λ r. app_of r
+        ≡ with_rules (app_of command.entry) (map (λ name. new_valued name.now) names.now)) }
 {
     let mut command = command;
     for name in names {
@@ -88,7 +94,8 @@ fn add_flags<'a>(
     command: Command<'a>,
     names: &[&'a str],
 ) -> Result<Command<'a>, AllocError>
-    ensures { IfOk result (λ r. app_of r ≡ with_rules (app_of command.entry) (map (λ name. new_flag name.now) names.now)) }
+    ensures { IfOk result (λ r. app_of r
+        ≡ with_rules (app_of command.entry) (map (λ name. new_flag name.now) names.now)) }
 {
     let mut command = command;
     for name in names {

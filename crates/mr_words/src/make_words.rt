@@ -27,7 +27,8 @@ pub struct MakeWords {
 /// Reads the words of `make`, of which the first is `make` itself and is not looked at.
 pub fn read_make(alloc: Global, words: &[String]) -> Result<MakeWords, WordsError>
     ensures reads { Reads (make_of (drop 1 (map string_bytes words.now))) result }
-    ensures listed { IfOk result (λ words. list_any (λ p. p == words.prime) (primes_of words.code) ≡ true) }
+    ensures listed { IfOk result (λ words.
+        list_any (λ p. p == words.prime) (primes_of words.code) ≡ true) }
 {
     let command = make_command(alloc)?;
     let matches = parse(command, words)?;
@@ -36,7 +37,8 @@ pub fn read_make(alloc: Global, words: &[String]) -> Result<MakeWords, WordsErro
 
 fn make_values(matches: &ArgMatches) -> Result<MakeWords, WordsError>
     ensures reads { Reads (make_from (first_value (found_of matches.now))) result }
-    ensures listed { IfOk result (λ words. list_any (λ p. p == words.prime) (primes_of words.code) ≡ true) }
+    ensures listed { IfOk result (λ words.
+        list_any (λ p. p == words.prime) (primes_of words.code) ≡ true) }
 {
     let code = code(matches, "code")?;
     let prime = prime(matches, "prime", code)?;

@@ -8,6 +8,7 @@ ghost use Rattle.mr_words.specs.Texts.{budget_of, code_of, file_of, file_or_none
 
 use crate::code::Code;
 use crate::errors::WordsError;
+use crate::limits::{BUDGET_LIMIT, DEFAULT_BUDGET, DEFAULT_WORKERS, WORKER_LIMIT};
 use crate::lost::is_lost;
 use clap::ArgMatches;
 use mr_io::Text;
@@ -84,7 +85,8 @@ pub fn number_or(
     low: u32,
     high: u32,
 ) -> Result<u32, WordsError>
-    ensures { Reads (number_or default low high (first_value (found_of matches.now) name.now)) result }
+    ensures { Reads (number_or default low high (first_value (found_of matches.now) name.now))
+        result }
 {
     match matches.get_str(name) {
         None => Ok(default),
@@ -96,14 +98,14 @@ pub fn number_or(
 pub fn workers(matches: &ArgMatches) -> Result<u32, WordsError>
     ensures { Reads (workers_of (first_value (found_of matches.now) (codes "workers"))) result }
 {
-    number_or(matches, "workers", 4, 1, 64)
+    number_or(matches, "workers", DEFAULT_WORKERS, 1, WORKER_LIMIT)
 }
 
 /// The budget, of `--budget`: 0 to 33,554,432, and 4,194,304 where it is not given.
 pub fn budget(matches: &ArgMatches) -> Result<u32, WordsError>
     ensures { Reads (budget_of (first_value (found_of matches.now) (codes "budget"))) result }
 {
-    number_or(matches, "budget", 4_194_304, 0, 33_554_432)
+    number_or(matches, "budget", DEFAULT_BUDGET, 0, BUDGET_LIMIT)
 }
 
 /// Whether the flag is given.

@@ -3,7 +3,7 @@ use Rattle.std.specs.Prelude.{IfSome}
 use Rattle.std.proofs.lemmas.List.{append-nil}
 use Rattle.std.proofs.lemmas.Result.{err_from_is_err_and}
 use Rattle.mr_model.specs.Plans.{Recipe}
-use Rattle.mr_plan.specs.Readings.{pieces}
+use Rattle.mr_text.specs.Lines.{pieces}
 use Rattle.mr_plan.proofs.ReadLaws.{reading-cut, reading-end, reading-bad, reading-turn, is_over-pieces, bad_answer, some_answer}
 use Rattle.mr_plan.proofs.reading.recipe_lines.Goals as goal
 

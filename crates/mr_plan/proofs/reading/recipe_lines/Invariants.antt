@@ -1,5 +1,6 @@
 use Rattle.std.proofs.Common.{length}
-use Rattle.mr_plan.specs.Readings.{pieces, read_recipes}
+use Rattle.mr_text.specs.Lines.{pieces}
+use Rattle.mr_plan.specs.Readings.{read_recipes}
 use Rattle.mr_plan.proofs.ReadLaws.{IsReading}
 use Rattle.mr_plan.proofs.reading.recipe_lines.Given as goal
 
