@@ -1,18 +1,20 @@
 -- The symbols in a run of bytes, and their XOR as a loop over the columns of a row makes it.
-use Rattle.std.proofs.Common.{◌≡◌, ℕ, suc, ◌+◌, ◌-◌, ◌*◌, ◌^◌, ◌<◌, ◌≤◌, List, [], take, drop, length, get_or, bit_xor, refl, sym, ap, subst, ◌∙◌, arith, zero-add, length-take, length-drop}
+use Rattle.std.proofs.Common.{◌≡◌, ℕ, suc, ◌+◌, ◌-◌, ◌*◌, ◌^◌, ◌<◌, ◌≤◌, List, [], take, drop, length, get_or, bit_xor, refl, sym, ap, ap₂, subst, ◌∙◌, arith, zero-add, length-take, length-drop}
 use Rattle.std.specs.Simd.Lanes.{zip2}
 use Rattle.std.proofs.Math.Nat.{suc-mul, add-mul, mul_assoc, mul-le-mul_right}
 use Rattle.std.proofs.lemmas.List.{drop-drop, drop-take, take-take}
 use Rattle.std.proofs.lemmas.List.Elements.{All-get_or}
 use Rattle.std.proofs.lemmas.List.FromFn.{get_or-map-range_with_len}
 use Rattle.mr_model.specs.Sets.{below}
+use Rattle.mr_model.specs.Members.{TakesLeast}
 use Rattle.mr_model.specs.Code.{Code, row}
-use Rattle.mr_model.proofs.SetLaws.{member-below}
+use Rattle.mr_model.proofs.SetLaws.{below-zero, member-below}
+use Rattle.mr_model.proofs.SumLaws.{zero-xor}
 use Rattle.mr_model.proofs.Lists.{map-range-same}
-use Rattle.mr_model.proofs.Loops.{IsTurn}
+use Rattle.mr_model.proofs.Loops.{IsRest, IsTurn, IsRest-all, IsRest-turn}
 use Rattle.mr_bits.specs.Matrices.{IsMatrixCode}
 use Rattle.mr_image.specs.Images.{Layout, xor_symbols}
-use Rattle.mr_image.proofs.XorLaws.{xor_symbols-turn}
+use Rattle.mr_image.proofs.XorLaws.{xor_symbols-single, xor_symbols-turn}
 use Rattle.mr_encode.specs.Data.{symbols_in, columns_of}
 
 -- place c of k places of `size` bytes ends within them
@@ -24,6 +26,10 @@ place_end size k len c long low =
 -- a row has columns of the code alone
 pub row_columns : (m : Code) (i : ℕ) → IsMatrixCode m → i < length m.rows → row m i < 2 ^ m.columns
 row_columns m i h low = All-get_or (λ r. r < 2 ^ m.columns) m.rows i 0 low h.columns
+
+-- the turn of a loop that takes the first member
+pub first-turn : (set s t rest : ℕ) → s ≡ set → TakesLeast s t rest → IsTurn set 0 t rest
+first-turn set s t rest e takes = IsRest-turn set 0 s t rest (subst (IsRest set 0) (sym e) (IsRest-all set)) takes
 
 -- the symbols of data, one for each column of a matrix
 module _ (m : Code) (size : ℕ) (columns : List ℕ) (matrix : IsMatrixCode m) (long : length columns ≡ m.columns * size) where
@@ -38,18 +44,31 @@ module _ (m : Code) (size : ℕ) (columns : List ℕ) (matrix : IsMatrixCode m) 
     turn-low : t < m.columns
     turn-low = member-below m.columns (row m i) t (row_columns m i matrix here) turn.member
 
-    pub turn-end : (at : ℕ) → at ≡ t → at * size + size ≤ length columns
-    turn-end at e = subst (λ d. d * size + size ≤ length columns) (sym e) (place_end size m.columns (length columns) t long turn-low)
+    pub turn-end : t * size + size ≤ length columns
+    turn-end = place_end size m.columns (length columns) t long turn-low
+
+    pub turn-size : (part : List ℕ) → part ≡ take size (drop (t * size) columns) → length part ≡ size
+    turn-size part is = ap length is ∙ symbols_in-size t turn-low
+
+    -- the first column
+    pub turn-first : n ≡ 0 → (part : List ℕ) → part ≡ take size (drop (t * size) columns)
+        → part ≡ xor_symbols size (symbols_in size m.columns columns) (below (t + 1) (row m i))
+    turn-first none part is =
+        let symbol : get_or (symbols_in size m.columns columns) t [] ≡ part = symbols_in-at t turn-low ∙ sym is in
+        let only : below (t + 1) (row m i) ≡ 2 ^ t =
+        turn.joined ∙ ap (λ x. bit_xor x (2 ^ t)) (ap (λ k. below k (row m i)) none ∙ below-zero (row m i)) ∙ zero-xor (2 ^ t) in
+        sym symbol
+        ∙ sym (xor_symbols-single size (symbols_in size m.columns columns) t (ap length (symbols_in-at t turn-low) ∙ symbols_in-size t turn-low))
+        ∙ ap (xor_symbols size (symbols_in size m.columns columns)) (sym only)
 
     -- one column more
-    pub turn-xor : (at width : ℕ) (now after : List ℕ) → at ≡ t → width ≡ size
-        → now ≡ xor_symbols size (symbols_in size m.columns columns) (below n (row m i)) → after ≡ zip2 bit_xor now (take width (drop (at * size) columns))
+    pub turn-xor : (part now after : List ℕ) → part ≡ take size (drop (t * size) columns)
+        → now ≡ xor_symbols size (symbols_in size m.columns columns) (below n (row m i)) → after ≡ zip2 bit_xor now part
         → after ≡ xor_symbols size (symbols_in size m.columns columns) (below (t + 1) (row m i))
-    turn-xor at width now after e w before made =
+    turn-xor part now after is before made =
         let symbol : get_or (symbols_in size m.columns columns) t [] ≡ take size (drop (t * size) columns) = symbols_in-at t turn-low in
         made
-        ∙ (λ j. zip2 bit_xor (before j) (take (w j) (drop (e j * size) columns)))
-        ∙ ap (zip2 bit_xor (xor_symbols size (symbols_in size m.columns columns) (below n (row m i)))) (sym symbol)
+        ∙ ap₂ (zip2 bit_xor) before (is ∙ sym symbol)
         ∙ sym (xor_symbols-turn size (symbols_in size m.columns columns) (row m i) n t rest turn (ap length symbol ∙ symbols_in-size t turn-low))
 
 -- the symbols of data of stripe s are those in its part of the data file

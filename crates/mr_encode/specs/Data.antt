@@ -14,4 +14,5 @@ symbols_in size k bytes = map (λ c. take size (drop (c * size) bytes)) (range_w
 
 -- the symbols of data of stripe s, one for each of k columns
 abbrev pub columns_of : Layout → ℕ → List ℕ → ℕ → List (List ℕ)
-columns_of l k bytes s = map (λ c. take l.symbol_bytes (drop ((s * k + c) * l.symbol_bytes) bytes)) (range_with_len 0 k)
+columns_of l k bytes s =
+    map (λ c. take l.symbol_bytes (drop ((s * k + c) * l.symbol_bytes) bytes)) (range_with_len 0 k)

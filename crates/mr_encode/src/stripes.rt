@@ -1,6 +1,6 @@
 //! The codeword of one stripe.
 
-ghost use Rattle.std.specs.Prelude.{◌≡◌, ◌*◌, ◌<◌, length, replicate};
+ghost use Rattle.std.specs.Prelude.{◌≡◌, ◌+◌, ◌*◌, ◌<◌, ◌≤◌, drop, length, replicate, take};
 ghost use Rattle.std.specs.List.{range_with_len, flat_map};
 ghost use Rattle.mr_model.specs.Codewords.{codeword};
 ghost use Rattle.mr_encode.specs.Data.{symbols_in};
@@ -18,7 +18,9 @@ pub(crate) fn encode_stripe(
 )
     requires columns { length columns.now ≡ matrix.now.columns * size }
     requires stripe { length stripe.old ≡ length matrix.now.rows * size }
-    ensures { stripe.new ≡ flat_map (codeword matrix.now size (symbols_in size matrix.now.columns columns.now)) (range_with_len 0 (length matrix.now.rows)) }
+    ensures { stripe.new ≡ flat_map (codeword matrix.now size
+        (symbols_in size matrix.now.columns columns.now))
+        (range_with_len 0 (length matrix.now.rows)) }
 {
     let count = matrix.shape().symbols() as u8;
     for symbol in 0..count {
@@ -28,19 +30,32 @@ pub(crate) fn encode_stripe(
 }
 
 /// Makes `symbol`, whatever it held, that of number `i` in the codeword of these symbols of data: the XOR of those at the
-/// columns of its row.
+/// columns of its row. The first of them is copied, so a row of one column is a copy alone.
 fn encode_symbol(matrix: &Matrix, kernel: &XorKernel, i: u8, columns: &[u8], symbol: &mut [u8])
     requires number { i < length matrix.now.rows }
     requires columns { length columns.now ≡ matrix.now.columns * length symbol.old }
-    ensures { symbol.new ≡ codeword matrix.now (length symbol.old) (symbols_in (length symbol.old) matrix.now.columns columns.now) i }
+    ensures { symbol.new ≡ codeword matrix.now (length symbol.old)
+        (symbols_in (length symbol.old) matrix.now.columns columns.now) i }
 {
     let _within_the_limits = matrix.shape();
+    let mut rest = matrix.row(i).symbols();
+    let Some(first) = rest.next() else {
+        return clear(symbol);
+    };
     let size = symbol.len();
-    clear(symbol);
-    for column in matrix.row(i).symbols() {
-        let at = usize::from(column) * size;
-        kernel.xor_into(symbol, &columns[at..at + size]);
+    symbol.copy_from_slice(symbol_at(columns, first, size));
+    for column in rest {
+        kernel.xor_into(symbol, symbol_at(columns, column, size));
     }
+}
+
+/// The symbol of this number of those of `size` bytes that stand one after another.
+fn symbol_at(symbols: &[u8], number: u8, size: usize) -> &[u8]
+    requires { number * size + size ≤ length symbols.now }
+    ensures { result.now ≡ take size (drop (number * size) symbols.now) }
+{
+    let at = usize::from(number) * size;
+    &symbols[at..at + size]
 }
 
 /// Makes each byte zero.

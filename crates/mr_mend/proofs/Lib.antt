@@ -13,7 +13,9 @@ pub mod Copying
 pub mod Wholes
 pub mod XorSets
 pub mod ScriptLines
+pub mod Gathering
 pub mod ReplyLines
 pub mod ScriptTexts
+pub mod ScriptFaults
 pub mod Serves
 pub mod ReplyImages

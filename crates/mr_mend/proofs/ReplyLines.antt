@@ -1,13 +1,13 @@
 -- The line of a reply as it is built in a buffer, and the lines of replies that stand one after another.
 use Rattle.std.proofs.Common.{◌≡◌, ℕ, zero, suc, ◌+◌, ◌*◌, ◌<◌, ◌≤◌, List, [], ◌∷◌, ◌++◌, flat_map, take, drop, length, get_or, set, All, refl, sym, ap, ap₂, subst, ◌∙◌, arith, zero-mul, Ok, Err}
-use Rattle.std.specs.Prelude.{⊤, Option, Result, IsOk, OnOk}
+use Rattle.std.specs.Prelude.{Result, IsOk, OnOk}
 use Rattle.std.proofs.Math.Nat.{suc-mul}
 use Rattle.std.proofs.Math.Seq.{take-append-add}
-use Rattle.std.proofs.lemmas.List.{take_at, drop_at, drop-drop, take_all, take_more_set}
+use Rattle.std.proofs.lemmas.Grind.{flat_map-append}
+use Rattle.std.proofs.lemmas.List.{take_at, take-append-drop, drop_at, drop-drop, take_all, take_more_set}
 use Rattle.std.proofs.lemmas.List.Elements.{All-head, All-tail}
 use Rattle.hex.specs.Hex.{encode_lower}
-use Rattle.mr_io.specs.Taking.{Held, Takes, TakesPart, Puts}
-use Rattle.mr_io.proofs.Taking.{takes_piece, part_piece}
+use Rattle.mr_io.proofs.Taking.{flat_map-take}
 use Rattle.mr_image.specs.Images.{Image}
 use Rattle.mr_mend.specs.declared.asks.Ask.{Ask}
 use Rattle.mr_mend.specs.Replies.{Reply, reply_front, reply_line, reply_lines, replies_in, buffer_lines}
@@ -37,6 +37,9 @@ line-written ask symbol front hex line rest at count is_front is_hex long_front 
 
 -- ---- the replies in a buffer
 
+abbrev pub line_of : Reply → List ℕ
+line_of reply = reply_line reply.ask reply.bytes
+
 module _ (size : ℕ) where
   pub length-replies_in : (asks : List Ask) (bytes : List ℕ) → length (replies_in size asks bytes) ≡ length asks
   unfolding replies_in
@@ -56,29 +59,26 @@ module _ (size : ℕ) where
       further : drop (k * size) (drop size bytes) ≡ drop (suc k * size) bytes
       further = drop-drop (k * size) size bytes ∙ ap (λ n. drop n bytes) (omega (arith, suc-mul k size))
 
-  line_of : Reply → List ℕ
-  line_of reply = reply_line reply.ask reply.bytes
+  -- the lines of the first k replies
+  abbrev pub lines_before : ℕ → List Ask → List ℕ → List ℕ
+  lines_before k asks replies = flat_map line_of (take k (replies_in size asks replies))
 
-  module _ (a b c : Option Held) (asks : List Ask) (replies : List ℕ) (k : ℕ) (ask e : Ask) (bytes : List ℕ)
-      (low : k < length asks) (here : ask ≡ get_or asks k e) (part : bytes ≡ take size (drop (k * size) replies)) where
-    reply : Reply
-    reply = record { ask = ask; bytes = bytes }
+  -- the lines of the first k replies, and those of the others
+  pub lines-split : (asks : List Ask) (replies : List ℕ) (k : ℕ) → buffer_lines size asks replies ≡ lines_before k asks replies ++ flat_map line_of (drop k (replies_in size asks replies))
+  lines-split asks replies k =
+      ap (flat_map line_of) (sym (take-append-drop k (replies_in size asks replies)))
+      ∙ flat_map-append line_of (take k (replies_in size asks replies)) (drop k (replies_in size asks replies))
 
-    in_list : k < length (replies_in size asks replies)
-    in_list = omega (arith, low, length-replies_in asks replies)
-
-    same : reply_line ask bytes ≡ reply_line (get_or (replies_in size asks replies) k reply).ask (get_or (replies_in size asks replies) k reply).bytes
-    same = ap (reply_line ask) part ∙ ap (λ (r : Reply). reply_line r.ask r.bytes) (sym (reply-at asks replies k ask e reply low here))
-
-    -- its line is put
-    pub takes-reply : Takes a b (flat_map (λ (r : Reply). reply_line r.ask r.bytes) (take k (replies_in size asks replies))) → Takes b c (reply_line ask bytes)
-        → Takes a c (flat_map (λ (r : Reply). reply_line r.ask r.bytes) (take (k + 1) (replies_in size asks replies)))
-    takes-reply first next = takes_piece (λ (r : Reply). reply_line r.ask r.bytes) a b c (replies_in size asks replies) k reply in_list first (subst (λ zs. Takes b c zs) same next)
-
-    -- its line is cut short
-    pub part-reply : Takes a b (flat_map (λ (r : Reply). reply_line r.ask r.bytes) (take k (replies_in size asks replies))) → TakesPart b c (reply_line ask bytes)
-        → TakesPart a c (buffer_lines size asks replies)
-    part-reply first next = part_piece (λ (r : Reply). reply_line r.ask r.bytes) a b c (replies_in size asks replies) k reply in_list first (subst (λ zs. TakesPart b c zs) same next)
+  -- with reply k, one line more
+  pub lines-more : (asks : List Ask) (replies : List ℕ) (k : ℕ) (ask e : Ask) (bytes : List ℕ) → k < length asks → ask ≡ get_or asks k e
+      → bytes ≡ take size (drop (k * size) replies) → lines_before k asks replies ++ reply_line ask bytes ≡ lines_before (k + 1) asks replies
+  lines-more asks replies k ask e bytes low here part =
+      let reply : Reply = record { ask = ask; bytes = bytes } in
+      let in_list : k < length (replies_in size asks replies) = omega (arith, low, length-replies_in asks replies) in
+      let same : reply_line ask bytes ≡ line_of (get_or (replies_in size asks replies) k reply) =
+      ap (reply_line ask) part ∙ ap line_of (sym (reply-at asks replies k ask e reply low here)) in
+      ap (λ line. lines_before k asks replies ++ line) same
+      ∙ flat_map-take line_of (replies_in size asks replies) k reply in_list
 
   -- a buffer that holds the symbols of an image has their lines
   pub buffer-lines : (image : Image) (asks : List Ask) → All (λ (ask : Ask). length (image ask.stripe ask.symbol) ≡ size) asks
@@ -93,13 +93,9 @@ module _ (size : ℕ) where
       (ap (buffer_lines size asks) (drop_at symbol rest size long)
       ∙ buffer-lines image asks (All-tail (λ (a : Ask). length (image a.stripe a.symbol) ≡ size) ask asks sizes))
 
-  -- all lines are put
-  pub puts-lines : {E : Type 0} (a b : Option Held) (asks : List Ask) (replies : List ℕ) (k : ℕ) → length asks ≤ k
-      → Takes a b (flat_map (λ (r : Reply). reply_line r.ask r.bytes) (take k (replies_in size asks replies))) → Puts {T = ⊤} {E = E} a b (Ok tt) (buffer_lines size asks replies)
-  puts-lines a b asks replies k all taken = record {
-    ok = subst (λ (rs : List Reply). Takes a b (flat_map (λ (r : Reply). reply_line r.ask r.bytes) rs)) (take_all k (replies_in size asks replies) (omega (arith, all, length-replies_in asks replies))) taken;
-    err = tt;
-  }
+  -- all lines
+  pub lines-all : (asks : List Ask) (replies : List ℕ) (k : ℕ) → length asks ≤ k → lines_before k asks replies ≡ buffer_lines size asks replies
+  lines-all asks replies k all = ap (flat_map line_of) (take_all k (replies_in size asks replies) (omega (arith, all, length-replies_in asks replies)))
 
 -- the part of the buffer that is read, as the code writes its place and its length
 pub read_part : (k size count at : ℕ) (replies : List ℕ) → count ≡ size → at ≡ k * size → take count (drop at replies) ≡ take size (drop (k * size) replies)

@@ -1,42 +1,19 @@
 -- Scripts line by line: what the line at the front asks for, and the asks so far.
-use Rattle.std.proofs.Common.{◌≡◌, ℕ, ◌+◌, ◌-◌, ◌*◌, ◌<◌, ◌≤◌, ◌==◌, ◌&&◌, ◌⊎◌, inl, inr, ⊎_elim, Bool, true, false, cond, nat_lt, List, [], ◌∷◌, ◌++◌, length, take, drop, All, Option, Some, None, Ok, Err, refl, sym, ap, ap₂, subst, ◌∙◌, arith}
+use Rattle.std.proofs.Common.{◌≡◌, ℕ, ◌+◌, ◌-◌, ◌*◌, ◌<◌, ◌≤◌, ◌==◌, ◌&&◌, ◌⊎◌, inl, inr, ⊎_elim, Bool, true, false, cond, nat_lt, List, [], ◌∷◌, ◌++◌, length, All, Option, Some, None, Ok, Err, refl, sym, ap, ap₂, subst, ◌∙◌, arith}
 use Rattle.std.specs.Prelude.{Result}
-use Rattle.std.specs.List.{position, position_or_len, before_first, after_first}
+use Rattle.std.specs.List.{position_or_len, before_first, after_first}
 use Rattle.std.proofs.lemmas.Bool.{ltb-true, ltb-false, ne_eqb}
-use Rattle.std.proofs.lemmas.List.{append_assoc, length-append, append-nil, take_rest, drop_all}
+use Rattle.std.proofs.lemmas.List.{append_assoc, length-append, append-nil, drop_all}
 use Rattle.std.proofs.lemmas.List.Elements.{All-append, All-cons}
-use Rattle.std.proofs.lemmas.List.Sums.{fails_before_first}
-use Rattle.std.proofs.lemmas.List.Splits.{slice_split_first, slice_split_none, length-slice_split}
 use Rattle.mr_text.specs.Numbers.{number_of, is_number}
+use Rattle.mr_text.proofs.LineLaws.{pieces-some}
 use Rattle.mr_image.specs.Images.{Layout, stripe_symbols}
 use Rattle.mr_mend.specs.declared.asks.Ask.{Ask}
 use Rattle.mr_mend.specs.declared.asks.ScriptFault.{ScriptFault}
 use Rattle.mr_mend.specs.declared.asks.ScriptFault.TheVariants.{Line, Memory, Large as TooLarge}
-use Rattle.mr_mend.specs.Scripts.{IsInRange, asked, ask_of, pieces, joined, asks_from, limited, asks_of}
+use Rattle.mr_text.specs.Lines.{pieces}
+use Rattle.mr_mend.specs.Scripts.{IsInRange, asked, ask_of, joined, asks_from, limited, asks_of, reply_limit}
 use Rattle.mr_bits.specs.declared.errors.What.TheVariants.{ReplyBytes}
-
--- ---- the first place of a byte
-
-pub place-found : (byte : ℕ) (bytes : List ℕ) (at : ℕ) → Some at ≡ position (λ b. b == byte) bytes
-    → (position_or_len (λ b. b == byte) bytes ≡ at) × (at < length bytes)
-place-found byte bytes at e = go (nat_lt (position_or_len (λ b. b == byte) bytes) (length bytes)) refl e
-  where
-    go : (t : Bool) → nat_lt (position_or_len (λ b. b == byte) bytes) (length bytes) ≡ t → Some at ≡ cond t (Some (position_or_len (λ b. b == byte) bytes)) None
-        → (position_or_len (λ b. b == byte) bytes ≡ at) × (at < length bytes)
-    go true h is = let same : position_or_len (λ b. b == byte) bytes ≡ at = cc in (same, omega (arith, same, ltb-true _ _ h))
-    go false h is = cc
-
-pub place-missing : (byte : ℕ) (bytes : List ℕ) → None ≡ position (λ b. b == byte) bytes → length bytes ≤ position_or_len (λ b. b == byte) bytes
-place-missing byte bytes e = go (nat_lt (position_or_len (λ b. b == byte) bytes) (length bytes)) refl e
-  where
-    go : (t : Bool) → nat_lt (position_or_len (λ b. b == byte) bytes) (length bytes) ≡ t → None ≡ cond t (Some (position_or_len (λ b. b == byte) bytes)) None
-        → length bytes ≤ position_or_len (λ b. b == byte) bytes
-    go true h is = cc
-    go false h is = ltb-false _ _ h
-
-pub rest-found : (byte : ℕ) (bytes : List ℕ) (at : ℕ) → position_or_len (λ b. b == byte) bytes ≡ at
-    → take (length bytes - (at + 1)) (drop (at + 1) bytes) ≡ after_first (λ b. b == byte) bytes
-rest-found byte bytes at e = take_rest bytes (at + 1) ∙ ap (λ n. drop (n + 1) bytes) (sym e)
 
 -- ---- one line
 
@@ -46,7 +23,7 @@ no_number = refl
 
 module _ (l : Layout) (line : List ℕ) where
   -- a line with no space
-  pub ask-no_space : length line ≤ position_or_len (λ b. b == 32) line → ask_of l line ≡ None
+  pub ask-no_space : position_or_len (λ b. b == 32) line ≡ length line → ask_of l line ≡ None
   unfolding ask_of
   ask-no_space h =
       let nothing : number_of (after_first (λ b. b == 32) line) ≡ None = ap number_of (drop_all (position_or_len (λ b. b == 32) line + 1) line (omega arith)) ∙ no_number in
@@ -89,27 +66,22 @@ asked-out l s i out = go (nat_lt s l.stripes) (nat_lt i (stripe_symbols l)) refl
 
 module _ (l : Layout) (n : ℕ) where
   -- a line with its line feed
-  pub from-ended : (line bytes : List ℕ) (text : List (List ℕ)) → text ≡ line ∷ pieces bytes → asks_from l n text ≡ joined n (ask_of l line) (asks_from l (n + 1) (pieces bytes))
+  pub from-ended : (line bytes : List ℕ) (text : List (List ℕ)) → text ≡ line ∷ pieces 10 bytes → asks_from l n text ≡ joined n (ask_of l line) (asks_from l (n + 1) (pieces 10 bytes))
   unfolding asks_from
-  from-ended line bytes text e = ap (asks_from l n) e ∙ go (pieces bytes) (omega (arith, length-slice_split (λ b. b == 10) bytes))
+  from-ended line bytes text e = ap (asks_from l n) e ∙ go (pieces 10 bytes) (pieces-some 10 bytes)
     where
       go : (rest : List (List ℕ)) → 0 < length rest → asks_from l n (line ∷ rest) ≡ joined n (ask_of l line) (asks_from l (n + 1) rest)
       go [] some = absurd (omega arith)
       go (next ∷ more) some = refl
 
-  pub from-split : (bytes line rest : List ℕ) → position_or_len (λ b. b == 10) bytes < length bytes
-      → line ≡ before_first (λ b. b == 10) bytes → rest ≡ after_first (λ b. b == 10) bytes → asks_from l n (pieces bytes) ≡ joined n (ask_of l line) (asks_from l (n + 1) (pieces rest))
-  from-split bytes line rest here is_line is_rest =
-      from-ended line rest (pieces bytes) (slice_split_first (λ b. b == 10) bytes 0 here ∙ ap₂ (λ a b. a ∷ pieces b) (sym is_line) (sym is_rest))
-
   -- bytes without a line feed
-  pub from-unended : (bytes : List ℕ) → 0 < length bytes → length bytes ≤ position_or_len (λ b. b == 10) bytes → asks_from l n (pieces bytes) ≡ Err (Line n)
+  pub from-unended : (bytes : List ℕ) → 0 < length bytes → pieces 10 bytes ≡ bytes ∷ [] → asks_from l n (pieces 10 bytes) ≡ Err (Line n)
   unfolding asks_from
-  from-unended bytes some missing =
-      ap (asks_from l n) (slice_split_none (λ b. b == 10) bytes (λ k d low. fails_before_first (λ b. b == 10) bytes k d (omega arith)))
+  from-unended bytes some alone =
+      ap (asks_from l n) alone
       ∙ (λ j. cond (ne_eqb (length bytes) 0 (λ e. omega (arith, e, some)) j) (Ok []) (Err (Line n)))
 
-  pub from-nothing : (bytes : List ℕ) → length bytes ≡ 0 → asks_from l n (pieces bytes) ≡ Ok []
+  pub from-nothing : (bytes : List ℕ) → length bytes ≡ 0 → asks_from l n (pieces 10 bytes) ≡ Ok []
   unfolding asks_from
   from-nothing [] e = refl
   from-nothing (b ∷ bytes) e = absurd (omega arith)
@@ -123,13 +95,13 @@ behind asks (Err fault) = Err fault
 
 -- these asks are read, and these bytes are left
 pub record IsReading (l : Layout) (bytes : List ℕ) (asks : List Ask) (left : List ℕ) : Type 0 where
-  pub all : asks_from l 1 (pieces bytes) ≡ behind asks (asks_from l (length asks + 1) (pieces left))
+  pub all : asks_from l 1 (pieces 10 bytes) ≡ behind asks (asks_from l (length asks + 1) (pieces 10 left))
   pub in_range : All (IsInRange l) asks
   pub few : length asks + length left ≤ length bytes
 
 module _ (l : Layout) (bytes : List ℕ) where
   pub reading-start : IsReading l bytes [] bytes
-  reading-start = record { all = go (asks_from l 1 (pieces bytes)); in_range = λ k d low. absurd (omega arith); few = omega arith }
+  reading-start = record { all = go (asks_from l 1 (pieces 10 bytes)); in_range = λ k d low. absurd (omega arith); few = omega arith }
     where
       go : (r : Result (List Ask) ScriptFault) → r ≡ behind [] r
       go (Ok asks) = refl
@@ -137,11 +109,11 @@ module _ (l : Layout) (bytes : List ℕ) where
 
   module _ (asks : List Ask) (left : List ℕ) (h : IsReading l bytes asks left) where
     pub reading-turn : (ask : Ask) (rest : List ℕ) (asks_next : List Ask)
-        → asks_from l (length asks + 1) (pieces left) ≡ joined (length asks + 1) (Some ask) (asks_from l (length asks + 1 + 1) (pieces rest))
+        → asks_from l (length asks + 1) (pieces 10 left) ≡ joined (length asks + 1) (Some ask) (asks_from l (length asks + 1 + 1) (pieces 10 rest))
         → IsInRange l ask → length rest < length left → asks_next ≡ asks ++ ask ∷ [] → IsReading l bytes asks_next rest
     reading-turn ask rest asks_next step in_range shorter is = subst (λ xs. IsReading l bytes xs rest) (sym is) (record {
-      all = h.all ∙ ap (behind asks) step ∙ go (asks_from l (length asks + 1 + 1) (pieces rest))
-          ∙ ap (λ n. behind (asks ++ ask ∷ []) (asks_from l n (pieces rest))) (omega (arith, longer));
+      all = h.all ∙ ap (behind asks) step ∙ go (asks_from l (length asks + 1 + 1) (pieces 10 rest))
+          ∙ ap (λ n. behind (asks ++ ask ∷ []) (asks_from l n (pieces 10 rest))) (omega (arith, longer));
       in_range = All-append (IsInRange l) asks (ask ∷ []) h.in_range (All-cons (IsInRange l) ask [] in_range (λ k d low. absurd (omega arith)));
       few = omega (arith, longer, h.few);
     })
@@ -153,38 +125,38 @@ module _ (l : Layout) (bytes : List ℕ) where
         go (Ok later) = ap Ok (sym (append_assoc asks (ask ∷ []) later))
         go (Err fault) = refl
 
-    pub reading-bad : (fault : ScriptFault) → asks_from l (length asks + 1) (pieces left) ≡ Err fault → asks_from l 1 (pieces bytes) ≡ Err fault
+    pub reading-bad : (fault : ScriptFault) → asks_from l (length asks + 1) (pieces 10 left) ≡ Err fault → asks_from l 1 (pieces 10 bytes) ≡ Err fault
     reading-bad fault e = h.all ∙ ap (behind asks) e
 
-    pub reading-end : length left ≡ 0 → asks_from l 1 (pieces bytes) ≡ Ok asks
+    pub reading-end : length left ≡ 0 → asks_from l 1 (pieces 10 bytes) ≡ Ok asks
     reading-end none = h.all ∙ ap (behind asks) (from-nothing l (length asks + 1) left none) ∙ ap Ok (append-nil asks)
 
 -- ---- the whole script
 
 module _ (l : Layout) (bytes : List ℕ) where
-  pub script-fault : (fault : ScriptFault) → (fault ≡ Memory) ⊎ (asks_from l 1 (pieces bytes) ≡ Err fault) → (fault ≡ Memory) ⊎ (asks_of l bytes ≡ Err fault)
+  pub script-fault : (fault : ScriptFault) → (fault ≡ Memory) ⊎ (asks_from l 1 (pieces 10 bytes) ≡ Err fault) → (fault ≡ Memory) ⊎ (asks_of l bytes ≡ Err fault)
   unfolding asks_of
   script-fault fault h = ⊎_elim (λ none. inl none) (λ bad. inr (ap (limited l) bad)) h
 
-  module _ (asks : List Ask) (read : asks_from l 1 (pieces bytes) ≡ Ok asks) where
-    pub script-large : (number : ℕ) → number ≡ length asks * l.symbol_bytes → 67108864 < number → asks_of l bytes ≡ Err (TooLarge (record { what = ReplyBytes; number = number }))
+  module _ (asks : List Ask) (read : asks_from l 1 (pieces 10 bytes) ≡ Ok asks) where
+    pub script-large : (number : ℕ) → number ≡ length asks * l.symbol_bytes → reply_limit < number → asks_of l bytes ≡ Err (TooLarge (record { what = ReplyBytes; number = number }))
     unfolding asks_of
-    script-large number is large = ap (limited l) read ∙ go (nat_lt 67108864 (length asks * l.symbol_bytes)) refl
+    script-large number is large = ap (limited l) read ∙ go (nat_lt reply_limit (length asks * l.symbol_bytes)) refl
       where
         fault : ℕ → ScriptFault
         fault n = TooLarge (record { what = ReplyBytes; number = n })
 
-        go : (t : Bool) → nat_lt 67108864 (length asks * l.symbol_bytes) ≡ t → cond t (Err (fault (length asks * l.symbol_bytes))) (Ok asks) ≡ Err (fault number)
+        go : (t : Bool) → nat_lt reply_limit (length asks * l.symbol_bytes) ≡ t → cond t (Err (fault (length asks * l.symbol_bytes))) (Ok asks) ≡ Err (fault number)
         go true e = ap (λ n. Err (fault n)) (sym is)
         go false e = absurd (omega (arith, is, large, ltb-false _ _ e))
 
-    pub script-asks : (number : ℕ) → number ≡ length asks * l.symbol_bytes → number ≤ 67108864 → asks_of l bytes ≡ Ok asks
+    pub script-asks : (number : ℕ) → number ≡ length asks * l.symbol_bytes → number ≤ reply_limit → asks_of l bytes ≡ Ok asks
     unfolding asks_of
-    script-asks number is few = ap (limited l) read ∙ go (nat_lt 67108864 (length asks * l.symbol_bytes)) refl
+    script-asks number is few = ap (limited l) read ∙ go (nat_lt reply_limit (length asks * l.symbol_bytes)) refl
       where
         fault : ScriptFault
         fault = TooLarge (record { what = ReplyBytes; number = length asks * l.symbol_bytes })
 
-        go : (t : Bool) → nat_lt 67108864 (length asks * l.symbol_bytes) ≡ t → cond t (Err fault) (Ok asks) ≡ Ok asks
+        go : (t : Bool) → nat_lt reply_limit (length asks * l.symbol_bytes) ≡ t → cond t (Err fault) (Ok asks) ≡ Ok asks
         go true e = absurd (omega (arith, is, few, ltb-true _ _ e))
         go false e = refl

@@ -10,17 +10,19 @@ use Rattle.std.proofs.lemmas.Bool.{ne_eqb, cases_lt}
 use Rattle.std.proofs.lemmas.Fmt.{digits_decimal}
 use Rattle.std.proofs.lemmas.List.{append_assoc, length-append, take_at, drop_at, drop_all}
 use Rattle.std.proofs.lemmas.List.Elements.{All-nil, All-cons, All-head, All-tail, All-append, All-from_get_or}
-use Rattle.std.proofs.lemmas.List.Splits.{slice_split_at, length-slice_split, join_with_byte-slice_split}
+use Rattle.std.proofs.lemmas.List.Splits.{slice_split_at, join_with_byte-slice_split}
 use Rattle.std.proofs.lemmas.List.Sums.{position_or_len_is, split_at_first, passes_at_first}
 use Rattle.std.proofs.lemmas.Str.Parse.{not_in_digits}
 use Rattle.mr_text.specs.Numbers.{number_of}
+use Rattle.mr_text.proofs.LineLaws.{pieces-some}
 use Rattle.mr_text.proofs.NumberLaws.{digits_model, number_of-decimal, decimal-number_of}
 use Rattle.mr_image.specs.Images.{Layout, IsLayout, stripe_symbols}
 use Rattle.mr_mend.specs.declared.asks.Ask.{Ask}
 use Rattle.mr_mend.specs.declared.asks.ScriptFault.{ScriptFault}
 use Rattle.mr_mend.specs.declared.asks.ScriptFault.TheVariants.{Line, Large as TooLarge}
 use Rattle.mr_bits.specs.declared.errors.What.TheVariants.{ReplyBytes}
-use Rattle.mr_mend.specs.Scripts.{IsInRange, asked, ask_of, pieces, joined, asks_from, limited, asks_of, ask_text, script_text, ReadsScripts}
+use Rattle.mr_text.specs.Lines.{pieces}
+use Rattle.mr_mend.specs.Scripts.{IsInRange, asked, ask_of, joined, asks_from, limited, asks_of, reply_limit, ask_text, script_text, ReadsScripts}
 use Rattle.mr_mend.proofs.ScriptLines.{no_number, ask-words, asked-in, from-ended, from-nothing, script-asks}
 
 -- no digit is a byte below the digits
@@ -84,10 +86,10 @@ module _ (l : Layout) (may : IsLayout l) where
         (All-cons (λ b. (b == 10) ≡ false) 32 [] refl (All-nil (λ b. (b == 10) ≡ false))))
         (decimal-without 10 ask.symbol (omega arith) (omega (arith, small_symbol)))
 
-    pub pieces-printed : (rest : List ℕ) → pieces (ask_text ask ++ codes "\n" ++ rest) ≡ ask_text ask ∷ pieces rest
-    pieces-printed rest = ap pieces (append_assoc (ask_text ask) (10 ∷ []) rest) ∙ slice_split_at (λ b. b == 10) (ask_text ask) 10 rest no_line_feed refl
+    pub pieces-printed : (rest : List ℕ) → pieces 10 (ask_text ask ++ codes "\n" ++ rest) ≡ ask_text ask ∷ pieces 10 rest
+    pieces-printed rest = ap (pieces 10) (append_assoc (ask_text ask) (10 ∷ []) rest) ∙ slice_split_at (λ b. b == 10) (ask_text ask) 10 rest no_line_feed refl
 
-  asks-printed : (asks : List Ask) (n : ℕ) → All (IsInRange l) asks → asks_from l n (pieces (script_text asks)) ≡ Ok asks
+  asks-printed : (asks : List Ask) (n : ℕ) → All (IsInRange l) asks → asks_from l n (pieces 10 (script_text asks)) ≡ Ok asks
   asks-printed [] n in_range = from-nothing l n [] refl
   asks-printed (ask ∷ asks) n in_range =
       let first : IsInRange l ask = All-head (IsInRange l) ask asks in_range in
@@ -159,12 +161,17 @@ module _ (l : Layout) where
           ∙ sym (append_assoc (ask_text ask) (10 ∷ []) (script_text rest))
           ∙ ap script_text all
 
+  pub asks-text : (bytes : List ℕ) (asks : List Ask) → asks_from l 1 (pieces 10 bytes) ≡ Ok asks → bytes ≡ script_text asks
+  asks-text bytes asks h =
+      sym (join_with_byte-slice_split 10 bytes)
+      ∙ asks-spelled (pieces 10 bytes) 1 asks (pieces-some 10 bytes) h
+
   abbrev Answer : Type 0
   Answer = Result (List Ask) ScriptFault
 
   limited-ok : (asks : List Ask) (r : Result (List Ask) ScriptFault) → limited l r ≡ Ok asks → r ≡ Ok asks
   limited-ok asks (Err fault) h = cc
-  limited-ok asks (Ok read) h = go (nat_lt 67108864 (length read * l.symbol_bytes)) h
+  limited-ok asks (Ok read) h = go (nat_lt reply_limit (length read * l.symbol_bytes)) h
     where
       go : (t : Bool) → cond t (Err (TooLarge (record { what = ReplyBytes; number = length read * l.symbol_bytes }))) (Ok read) ≡ Ok asks → ◌≡◌ {A = Answer} (Ok read) (Ok asks)
       go true e = cc
@@ -174,7 +181,5 @@ pub reads-scripts : (l : Layout) → IsLayout l → ReadsScripts l
 unfolding asks_of
 reads-scripts l may = record {
   printed = λ asks in_range few. script-asks l (script_text asks) asks (asks-printed l may asks 1 in_range) (length asks * l.symbol_bytes) refl few;
-  spelled = λ bytes asks h.
-      sym (join_with_byte-slice_split 10 bytes)
-      ∙ asks-spelled l (pieces bytes) 1 asks (omega (arith, length-slice_split (λ b. b == 10) bytes)) (limited-ok l asks (asks_from l 1 (pieces bytes)) h);
+  spelled = λ bytes asks h. asks-text l bytes asks (limited-ok l asks (asks_from l 1 (pieces 10 bytes)) h);
 }

@@ -4,12 +4,14 @@ use Rattle.std.specs.Prelude.{is_some, IfSome}
 use Rattle.std.specs.List.{range_with_len}
 use Rattle.std.proofs.Math.Nat.{suc-mul, add-mul, mul_assoc}
 use Rattle.std.proofs.Math.Seq.{take-add}
-use Rattle.std.proofs.lemmas.List.{drop-drop, take_all, length-drop, take-append-drop}
+use Rattle.std.proofs.lemmas.List.{drop-drop, take_all, take_at, length-drop, take-append-drop}
 use Rattle.mr_model.specs.Plans.{Recipe}
 use Rattle.mr_image.specs.Images.{Layout, Image, stripe_symbols, image_of, image_body, stripe_of, every_stripe, equation_of, rebuilt, mended, place}
 use Rattle.mr_image.specs.Heads.{head_bytes, image_bytes, file_bytes}
 use Rattle.mr_image.proofs.Codewords.{image_body-same}
+use Rattle.mr_mend.specs.declared.asks.Ask.{Ask}
 use Rattle.mr_mend.specs.Mending.{has_recipe, HoldsMended, HoldsCopies, KeepsMended, mended_file}
+use Rattle.mr_mend.specs.Serving.{reply_bytes}
 
 -- the pieces of a list, of m bytes each, from the a-th on
 pieces-are : (xs : List ℕ) (m n a : ℕ) → flat_map (λ k. take m (drop (k * m) xs)) (range_with_len a n) ≡ take (n * m) (drop (a * m) xs)
@@ -78,7 +80,7 @@ module _ (l : Layout) (recipes : List Recipe) (start mended_only bytes : List �
       go s i here low true e = keeps.same s i here low e ∙ holds.same s i here low e
       go s i here low false e = copies.same s i here low e ∙ mended-without l recipes (image_of l told) s i e
 
-  -- the same, of what two eyes tell
+  -- so it is where two eyes tell one file
   pub rebuilt-told : (mend copy : Option (List ℕ)) → length bytes ≡ file_bytes l → take 32 start ≡ head_bytes l → take 32 mended_only ≡ take 32 start
       → IfSome mend (λ first. HoldsMended l recipes (image_of l first) mended_only) → KeepsMended l recipes mended_only bytes → IfSome copy (λ second. HoldsCopies l recipes (image_of l second) bytes)
       → IfSome mend (λ first. copy ≡ Some first → bytes ≡ mended_file l recipes first)
@@ -87,3 +89,22 @@ module _ (l : Layout) (recipes : List Recipe) (start mended_only bytes : List �
       go : (o : Option (List ℕ)) → IfSome o (λ first. HoldsMended l recipes (image_of l first) mended_only) → IfSome o (λ first. copy ≡ Some first → bytes ≡ mended_file l recipes first)
       go None h = tt
       go (Some first) h = λ same. rebuilt-is first long head front h keeps (subst (λ o. IfSome o (λ second. HoldsCopies l recipes (image_of l second) bytes)) same copies)
+
+-- the replies that are taken from the buffer of the output, where two eyes tell one file
+pub replied-told : (l : Layout) (recipes : List Recipe) (asks : List Ask) (made served replies : List ℕ) (mend live : Option (List ℕ)) → served ≡ made
+    → IfSome mend (λ first. HoldsMended l recipes (image_of l first) made)
+    → IfSome live (λ second. HoldsMended l recipes (image_of l second) served → replies ≡ reply_bytes (mended l (every_stripe recipes) (image_of l second)) asks)
+    → IfSome mend (λ first. live ≡ Some first → replies ≡ reply_bytes (mended l (every_stripe recipes) (image_of l first)) asks)
+replied-told l recipes asks made served replies None live same holds replied = tt
+replied-told l recipes asks made served replies (Some first) live same holds replied = λ told.
+    subst (λ o. IfSome o (λ second. HoldsMended l recipes (image_of l second) served → replies ≡ reply_bytes (mended l (every_stripe recipes) (image_of l second)) asks)) told replied
+    (subst (HoldsMended l recipes (image_of l first)) (sym same) holds)
+
+-- a vector after all of it was written as a slice
+pub rejoined : (len : ℕ) (written before : List ℕ) → length written ≡ len → take len (written ++ drop (length written) before) ≡ written
+rejoined len written before long = take_at written (drop (length written) before) len long
+
+-- what is told implies less
+pub told-weaker : (o : Option (List ℕ)) (P Q : List ℕ → Type 0) → ((bytes : List ℕ) → P bytes → Q bytes) → IfSome o P → IfSome o Q
+told-weaker None P Q weaker h = tt
+told-weaker (Some bytes) P Q weaker h = weaker bytes h

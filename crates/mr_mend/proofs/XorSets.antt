@@ -1,6 +1,6 @@
 -- The XOR of the symbols of a set in a stripe, one symbol after the other.
-use Rattle.std.proofs.Common.{◌≡◌, ℕ, ◌+◌, ◌-◌, ◌*◌, ◌^◌, ◌<◌, ◌≤◌, true, List, [], take, drop, length, get_or, replicate, Option, Some, None, sym, ap, ap₂, subst, ◌∙◌, arith, zero-add, zero-mul, pow_pos}
-use Rattle.std.specs.Prelude.{Result, IfSome, OnOk}
+use Rattle.std.proofs.Common.{refl, ◌≡◌, ℕ, ◌+◌, ◌-◌, ◌*◌, ◌^◌, ◌<◌, true, List, [], take, drop, length, get_or, replicate, Option, Some, None, sym, ap, ap₂, subst, ◌∙◌, arith, zero-add, zero-mul, pow_pos}
+use Rattle.std.specs.Prelude.{IfSome}
 use Rattle.std.proofs.Math.Nat.{add-mul}
 use Rattle.std.proofs.lemmas.Option.{IfSome_then}
 use Rattle.std.proofs.lemmas.List.FromFn.{get_or-map-range_with_len}
@@ -11,9 +11,10 @@ use Rattle.mr_model.proofs.SetLaws.{member-below, below-zero, Within-le, Within-
 use Rattle.mr_model.proofs.Loops.{IsRest, IsTurn, IsRest-all, IsRest-none, IsRest-turn, members-none, members-length-turn}
 use Rattle.mr_io.specs.Sights.{Sight, sight_with}
 use Rattle.mr_kern.specs.Xor.{xor_bytes}
-use Rattle.mr_image.specs.Images.{Layout, image_of, near, stripe_of, stripe_symbols, xor_symbols, place}
+use Rattle.mr_image.specs.Images.{Layout, image_of, stripe_of, stripe_symbols, xor_symbols, place}
 use Rattle.mr_image.proofs.XorLaws.{xor_symbols-none, xor_symbols-turn}
 use Rattle.mr_eq.specs.Singles.{survivors}
+use Rattle.mr_model.specs.Choice.{single}
 use Rattle.mr_mend.proofs.Progress.{sight_with-none, sight_with-more}
 use Rattle.mr_mend.proofs.Subsets.{within-low}
 
@@ -22,7 +23,7 @@ pub record SumBelow (l : Layout) (set s n rest : ℕ) (old now : Sight) (before 
   pub to_come : IsRest set n rest
   pub sum : IfSome old.bytes (λ told. buf ≡ xor_symbols l.symbol_bytes (stripe_of l (image_of l told) s) (below n set))
   pub taken : now ≡ sight_with old (length (members (below n set)) * l.symbol_bytes)
-  pub later : before ≤ after
+  pub quiet : after ≡ before
 
 module _ (l : Layout) (set s : ℕ) (few : set < 2 ^ stripe_symbols l) (old : Sight) (before : ℕ) where
   pub sum-start : (rest size : ℕ) (buf : List ℕ) → rest ≡ set → size ≡ l.symbol_bytes → buf ≡ replicate size 0 → SumBelow l set s 0 rest old old before before buf
@@ -33,7 +34,7 @@ module _ (l : Layout) (set s : ℕ) (few : set < 2 ^ stripe_symbols l) (old : Si
         to_come = subst (λ x. IsRest set 0 x) (sym all) (IsRest-all set);
         sum = go old.bytes;
         taken = sight_with-none old ∙ ap (sight_with old) (sym none);
-        later = omega arith;
+        quiet = refl;
       }
     where
       go : (o : Option (List ℕ)) → IfSome o (λ told. buf ≡ xor_symbols l.symbol_bytes (stripe_of l (image_of l told) s) (below 0 set))
@@ -44,9 +45,9 @@ module _ (l : Layout) (set s : ℕ) (few : set < 2 ^ stripe_symbols l) (old : Si
 
   pub sum-turn : (n rest t next at size after after_next : ℕ) (now now_next : Sight) (symbol buf buf_next : List ℕ)
       → SumBelow l set s n rest old now before after buf → TakesLeast rest t next → at ≡ place l s t → size ≡ l.symbol_bytes → length symbol ≡ l.symbol_bytes
-      → IfSome now.bytes (λ told. symbol ≡ take size (drop at told)) → now_next ≡ sight_with now size → after ≤ after_next → buf_next ≡ xor_bytes buf symbol
+      → IfSome now.bytes (λ told. symbol ≡ take size (drop at told)) → now_next ≡ sight_with now size → after_next ≡ after → buf_next ≡ xor_bytes buf symbol
       → SumBelow l set s (t + 1) next old now_next before after_next buf_next
-  sum-turn n rest t next at size after after_next now now_next symbol buf buf_next h takes at_is size_is long read took later added =
+  sum-turn n rest t next at size after after_next now now_next symbol buf buf_next h takes at_is size_is long read took quiet added =
       let turn : IsTurn set n t next = IsRest-turn set n rest t next h.to_come takes in
       let low : t < stripe_symbols l = member-below (stripe_symbols l) set t few turn.member in
       let count : ℕ = length (members (below n set)) in
@@ -56,7 +57,7 @@ module _ (l : Layout) (set s : ℕ) (few : set < 2 ^ stripe_symbols l) (old : Si
         to_come = turn.rest;
         sum = go old.bytes h.sum (subst (λ o. IfSome o (λ told. symbol ≡ take size (drop at told))) (ap (λ (x : Sight). x.bytes) h.taken) read) turn low;
         taken = took ∙ ap (λ x. sight_with x size) h.taken ∙ sight_with-more old (count * l.symbol_bytes) size ∙ ap (sight_with old) (sym more);
-        later = omega (arith, h.later, later);
+        quiet = quiet ∙ h.quiet;
       }
     where
       go : (o : Option (List ℕ)) → IfSome o (λ told. buf ≡ xor_symbols l.symbol_bytes (stripe_of l (image_of l told) s) (below n set))
@@ -82,12 +83,12 @@ module _ (l : Layout) (set s : ℕ) (few : set < 2 ^ stripe_symbols l) (old : Si
 survivors-below : (m : Code) (lost : ℕ) → survivors m lost < 2 ^ length m.rows
 survivors-below m lost = omega (arith, Within-le _ _ (Within-minus (2 ^ length m.rows - 1) lost), pow_pos (length m.rows))
 
--- a set of survivors has symbols of the stripe alone
-pub single-low : (m : Code) (lost set count : ℕ) → length m.rows ≡ count → within set (survivors m lost) ≡ true → set < 2 ^ count
-single-low m lost set count rows inside = subst (λ n. set < 2 ^ n) rows (within-low set (survivors m lost) (length m.rows) inside (survivors-below m lost))
+-- the single equation of a lost symbol, as a set
+abbrev pub single_set : (m : Code) (lost budget t : ℕ) → ℕ
+single_set m lost budget t = single m (survivors m lost) t budget
 
--- the XOR of the symbols of the single equation is the near reply
-pub near-is : {T E : Type 0} (l : Layout) (sets : ℕ → ℕ → ℕ) (s t set : ℕ) (r : Result T E) (o : Option (List ℕ)) (buf : List ℕ) → set ≡ sets s t
-    → OnOk r (IfSome o (λ told. buf ≡ xor_symbols l.symbol_bytes (stripe_of l (image_of l told) s) set)) → OnOk r (IfSome o (λ told. buf ≡ near l sets (image_of l told) s t))
-unfolding near
-near-is l sets s t set r o buf e h = subst (λ x. OnOk r (IfSome o (λ told. buf ≡ xor_symbols l.symbol_bytes (stripe_of l (image_of l told) s) x))) e h
+-- it has symbols of the stripe alone
+pub single-low : (m : Code) (lost budget t set count : ℕ) → length m.rows ≡ count → within set (survivors m lost) ≡ true → set ≡ single_set m lost budget t
+    → single_set m lost budget t < 2 ^ count
+single-low m lost budget t set count rows inside is = subst (λ x. x < 2 ^ count) is
+    (subst (λ n. set < 2 ^ n) rows (within-low set (survivors m lost) (length m.rows) inside (survivors-below m lost)))

@@ -9,6 +9,7 @@ use Rattle.mr_image.specs.Images.{Layout, stripe_symbols, Image, image_of, equat
 use Rattle.mr_image.specs.Heads.{file_bytes, image_bytes}
 use Rattle.mr_plan.specs.Plans.{PlanParts}
 use Rattle.mr_mend.specs.declared.asks.Ask.{Ask}
+use Rattle.mr_mend.specs.Replies.{lines_room}
 
 -- ---- what is asked
 
@@ -54,11 +55,14 @@ has_recipe recipes i = is_some (equation_of recipes i)
 
 -- each symbol with a recipe stands there as the mended image has it
 pub record HoldsMended (l : Layout) (recipes : List Recipe) (image : Image) (bytes : List ℕ) : Type 0 where
-  pub same : (s i : ℕ) → s < l.stripes → i < stripe_symbols l → has_recipe recipes i ≡ true → image_of l bytes s i ≡ mended l (every_stripe recipes) image s i
+  pub same : (s i : ℕ) → s < l.stripes → i < stripe_symbols l → has_recipe recipes i ≡ true
+      → image_of l bytes s i ≡ mended l (every_stripe recipes) image s i
 
 -- after these symbols were put into stripe s, that of each recipe to its place, the other stripes and the head are as before
 pub record PutsSymbols (l : Layout) (recipes : List Recipe) (s : ℕ) (symbols before now : List ℕ) : Type 0 where
-  pub there : (k : ℕ) (d : Recipe) → k < length recipes → image_of l now s (slice_index_or recipes k d).symbol ≡ take l.symbol_bytes (drop (k * l.symbol_bytes) symbols)
+  pub there : (k : ℕ) (d : Recipe) → k < length recipes
+      → image_of l now s (slice_index_or recipes k d).symbol
+      ≡ take l.symbol_bytes (drop (k * l.symbol_bytes) symbols)
   pub others : (t i : ℕ) → t ≢ s → i < stripe_symbols l → image_of l now t i ≡ image_of l before t i
   pub front : take 32 now ≡ take 32 before
 
@@ -70,11 +74,13 @@ copied_set l recipes = set_below (stripe_symbols l) (λ i. not (has_recipe recip
 
 -- each symbol without a recipe stands there as the image has it
 pub record HoldsCopies (l : Layout) (recipes : List Recipe) (image : Image) (bytes : List ℕ) : Type 0 where
-  pub same : (s i : ℕ) → s < l.stripes → i < stripe_symbols l → has_recipe recipes i ≡ false → image_of l bytes s i ≡ image s i
+  pub same : (s i : ℕ) → s < l.stripes → i < stripe_symbols l → has_recipe recipes i ≡ false
+      → image_of l bytes s i ≡ image s i
 
 -- the head, and each symbol with a recipe, stand there as before
 pub record KeepsMended (l : Layout) (recipes : List Recipe) (before now : List ℕ) : Type 0 where
-  pub same : (s i : ℕ) → s < l.stripes → i < stripe_symbols l → has_recipe recipes i ≡ true → image_of l now s i ≡ image_of l before s i
+  pub same : (s i : ℕ) → s < l.stripes → i < stripe_symbols l → has_recipe recipes i ≡ true
+      → image_of l now s i ≡ image_of l before s i
   pub front : take 32 now ≡ take 32 before
 
 -- in stripe s the symbols of the set stand as the image has them
@@ -83,7 +89,8 @@ pub record HoldsSymbols (l : Layout) (set s : ℕ) (image : Image) (bytes : List
 
 -- the head, the other stripes, and in stripe s the symbols outside of the set stand as before
 pub record KeepsOthers (l : Layout) (set s : ℕ) (before now : List ℕ) : Type 0 where
-  pub same : (t i : ℕ) → i < stripe_symbols l → (t ≡ s → bit_at set i ≡ 0) → image_of l now t i ≡ image_of l before t i
+  pub same : (t i : ℕ) → i < stripe_symbols l → (t ≡ s → bit_at set i ≡ 0)
+      → image_of l now t i ≡ image_of l before t i
   pub front : take 32 now ≡ take 32 before
 
 -- ---- a run of neighbours
@@ -100,7 +107,8 @@ pub record HoldsRun (l : Layout) (s first «end» : ℕ) (image : Image) (bytes 
 
 -- the head, the other stripes, and in stripe s the symbols before first or from the end on stand as before
 pub record KeepsBesides (l : Layout) (s first «end» : ℕ) (before now : List ℕ) : Type 0 where
-  pub same : (t i : ℕ) → i < stripe_symbols l → (t ≡ s → (i < first) ⊎ («end» ≤ i)) → image_of l now t i ≡ image_of l before t i
+  pub same : (t i : ℕ) → i < stripe_symbols l → (t ≡ s → (i < first) ⊎ («end» ≤ i))
+      → image_of l now t i ≡ image_of l before t i
   pub front : take 32 now ≡ take 32 before
 
 -- ---- a whole rebuild
@@ -110,7 +118,7 @@ abbrev pub mended_file : Layout → List Recipe → List ℕ → List ℕ
 mended_file l recipes bytes = image_bytes l (mended l (every_stripe recipes) (image_of l bytes))
 
 -- how many bytes there are for the whole file, for one symbol, for the rebuilt symbols of a stripe, for all replies, and
--- for the line of one reply
+-- for the lines of replies that are gathered
 pub record RoomSizes : Type 0 where
   pub image : ℕ
   pub buf : ℕ
@@ -124,4 +132,4 @@ pub record IsRoomFor (l : Layout) (plan : PlanParts) (asks : List Ask) (room : R
   pub buf : room.buf ≡ l.symbol_bytes
   pub lost : room.lost ≡ length plan.recipes * l.symbol_bytes
   pub replies : room.replies ≡ length asks * l.symbol_bytes
-  pub line : room.line ≡ 2 * l.symbol_bytes + 32
+  pub line : room.line ≡ lines_room l

@@ -1,12 +1,21 @@
 -- Scripts: what each line asks for, and the first line that is not of its form.
-use Rattle.std.specs.Prelude.{◌≡◌, ℕ, ◌+◌, ◌*◌, ◌<◌, ◌≤◌, ◌==◌, ◌&&◌, nat_lt, List, [], ◌∷◌, ◌++◌, flat_map, length, All, codes, decimal, Option, Some, None, Result, Ok, Err, if◌then◌else◌}
-use Rattle.std.specs.List.{slice_split, before_first, after_first}
+use Rattle.std.specs.Prelude.{◌≡◌, ◌≢◌, ℕ, ◌+◌, ◌*◌, ◌<◌, ◌≤◌, ◌==◌, ◌&&◌, nat_lt, List, [], ◌∷◌, ◌++◌, flat_map, length, All, codes, decimal, Option, Some, None, Result, Ok, Err, if◌then◌else◌}
+use Rattle.std.specs.List.{before_first, after_first}
+use Rattle.mr_text.specs.Lines.{pieces}
 use Rattle.mr_text.specs.Numbers.{number_of}
+use Rattle.mr_bits.specs.declared.errors.Large.{Large}
 use Rattle.mr_bits.specs.declared.errors.What.TheVariants.{ReplyBytes}
 use Rattle.mr_image.specs.Images.{Layout, stripe_symbols}
 use Rattle.mr_mend.specs.declared.asks.Ask.{Ask}
 use Rattle.mr_mend.specs.declared.asks.ScriptFault.{ScriptFault}
 use Rattle.mr_mend.specs.declared.asks.ScriptFault.TheVariants.{Line, Large as TooLarge}
+
+-- the most bytes of a script, and of all its replies
+abbrev pub script_limit : ℕ
+script_limit = 1048576
+
+abbrev pub reply_limit : ℕ
+reply_limit = 67108864
 
 -- ---- one line
 
@@ -17,18 +26,17 @@ pub record IsInRange (l : Layout) (ask : Ask) : Type 0 where
 
 -- the ask of a stripe and a symbol, where the image has them
 abbrev pub asked : Layout → Option ℕ → Option ℕ → Option Ask
-asked l (Some s) (Some i) = if nat_lt s l.stripes && nat_lt i (stripe_symbols l) then Some (record { stripe = s; symbol = i }) else None
+asked l (Some s) (Some i) =
+    if nat_lt s l.stripes && nat_lt i (stripe_symbols l)
+    then Some (record { stripe = s; symbol = i }) else None
 asked l _ _ = None
 
 -- the ask that a line spells: the number of a stripe, one space (32), and the number of a symbol
 unfoldable pub ask_of : Layout → List ℕ → Option Ask
-ask_of l line = asked l (number_of (before_first (λ b. b == 32) line)) (number_of (after_first (λ b. b == 32) line))
+ask_of l line = asked l
+    (number_of (before_first (λ b. b == 32) line)) (number_of (after_first (λ b. b == 32) line))
 
 -- ---- all lines
-
--- what stands between the line feeds of a text: its lines, and then what is behind the last line feed
-abbrev pub pieces : List ℕ → List (List ℕ)
-pieces bytes = slice_split (λ b. b == 10) bytes
 
 -- the ask of line n before those of the lines behind it
 abbrev pub joined : ℕ → Option Ask → Result (List Ask) ScriptFault → Result (List Ask) ScriptFault
@@ -36,20 +44,23 @@ joined n None later = Err (Line n)
 joined n (Some ask) (Ok asks) = Ok (ask ∷ asks)
 joined n (Some ask) (Err fault) = Err fault
 
--- the asks of the lines from number n on, or the first line that spells none; behind the last line feed nothing stands
+-- the asks of the lines from number n on, or the first line that spells none; behind the last line feed (10) nothing stands
 unfoldable pub asks_from : Layout → ℕ → List (List ℕ) → Result (List Ask) ScriptFault
 asks_from l n [] = Ok []
 asks_from l n (last ∷ []) = if length last == 0 then Ok [] else Err (Line n)
 asks_from l n (line ∷ next ∷ more) = joined n (ask_of l line) (asks_from l (n + 1) (next ∷ more))
 
--- asks whose replies have at most 67,108,864 bytes in all
+-- asks whose replies have in all no more bytes than the limit
 abbrev pub limited : Layout → Result (List Ask) ScriptFault → Result (List Ask) ScriptFault
-limited l (Ok asks) = if nat_lt 67108864 (length asks * l.symbol_bytes) then Err (TooLarge (record { what = ReplyBytes; number = length asks * l.symbol_bytes })) else Ok asks
+limited l (Ok asks) =
+    if nat_lt reply_limit (length asks * l.symbol_bytes)
+    then Err (TooLarge (record { what = ReplyBytes; number = length asks * l.symbol_bytes }))
+    else Ok asks
 limited l (Err fault) = Err fault
 
 -- what a script asks for, or its first fault
 unfoldable pub asks_of : Layout → List ℕ → Result (List Ask) ScriptFault
-asks_of l bytes = limited l (asks_from l 1 (pieces bytes))
+asks_of l bytes = limited l (asks_from l 1 (pieces 10 bytes))
 
 -- ---- printing
 
@@ -57,12 +68,40 @@ asks_of l bytes = limited l (asks_from l 1 (pieces bytes))
 abbrev pub ask_text : Ask → List ℕ
 ask_text ask = decimal ask.stripe ++ codes " " ++ decimal ask.symbol
 
--- the text of a script: each line has its line feed
+-- its line, with the line feed
+abbrev pub ask_line : Ask → List ℕ
+ask_line ask = ask_text ask ++ codes "\n"
+
+-- the text of a script
 abbrev pub script_text : List Ask → List ℕ
-script_text asks = flat_map (λ ask. ask_text ask ++ codes "\n") asks
+script_text asks = flat_map (λ ask. ask_line ask) asks
+
+-- ---- why a script is refused
+
+-- Line n is the first that is not of its form: the n - 1 lines before it are those of asks that the image has. What stands
+-- behind them is not empty, and does not begin with the line of such an ask.
+pub record HasFirstBadLine (l : Layout) (bytes : List ℕ) (n : ℕ) : Type 0 where
+  pub asks : List Ask
+  pub rest : List ℕ
+  pub number : n ≡ length asks + 1
+  pub in_range : All (IsInRange l) asks
+  pub parts : bytes ≡ script_text asks ++ rest
+  pub some : 0 < length rest
+  pub bad : (ask : Ask) (more : List ℕ) → IsInRange l ask → rest ≢ ask_line ask ++ more
+
+-- It is the text of asks that the image has, and their replies have this number of bytes, above the limit.
+pub record HasLargeReplies (l : Layout) (bytes : List ℕ) (large : Large) : Type 0 where
+  pub asks : List Ask
+  pub in_range : All (IsInRange l) asks
+  pub text : bytes ≡ script_text asks
+  pub what : large.what ≡ ReplyBytes
+  pub number : large.number ≡ length asks * l.symbol_bytes
+  pub above : reply_limit < large.number
 
 -- Printing and reading are inverse: the text of asks that the image has is read as these asks, where their replies are
 -- not too large, and what is read as asks is the text of them.
 pub record ReadsScripts (l : Layout) : Type 0 where
-  pub printed : (asks : List Ask) → All (IsInRange l) asks → length asks * l.symbol_bytes ≤ 67108864 → asks_of l (script_text asks) ≡ Ok asks
-  pub spelled : (bytes : List ℕ) (asks : List Ask) → asks_of l bytes ≡ Ok asks → bytes ≡ script_text asks
+  pub printed : (asks : List Ask) → All (IsInRange l) asks
+      → length asks * l.symbol_bytes ≤ reply_limit → asks_of l (script_text asks) ≡ Ok asks
+  pub spelled : (bytes : List ℕ) (asks : List Ask)
+      → asks_of l bytes ≡ Ok asks → bytes ≡ script_text asks

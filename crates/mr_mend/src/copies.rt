@@ -26,9 +26,12 @@ pub fn copy_survivors<E: Eye>(
 ) -> Result<(), Failed>
     requires eye { HasImage head.now (E.sight eye.old) }
     requires image { length image.old ≡ file_bytes head.now }
-    ensures copied { OnOk result (IfSome (E.sight eye.old).bytes (λ bytes. HoldsCopies head.now plan.now.recipes (image_of head.now bytes) image.new)) }
+    ensures copied { OnOk result (IfSome (E.sight eye.old).bytes (λ bytes.
+        HoldsCopies head.now plan.now.recipes (image_of head.now bytes) image.new)) }
     ensures kept { KeepsMended head.now plan.now.recipes image.old image.new }
-    ensures taken { OnOk result (E.sight eye.new ≡ sight_with (E.sight eye.old) (head.now.stripes * (length (members (copied_set head.now plan.now.recipes)) * head.now.symbol_bytes))) }
+    ensures taken { OnOk result (E.sight eye.new ≡ sight_with (E.sight eye.old)
+        (head.now.stripes * (length (members (copied_set head.now plan.now.recipes))
+        * head.now.symbol_bytes))) }
     ensures file { IsSameFile (E.sight eye.old) (E.sight eye.new) }
     ensures cause { HasCause (E.faults eye.old) (E.faults eye.new) result }
 {
@@ -51,9 +54,11 @@ fn copy_stripe<E: Eye>(
     requires set { set < 2 ^ stripe_symbols head.now }
     requires stripe { stripe < head.now.stripes }
     requires image { length image.old ≡ file_bytes head.now }
-    ensures copied { OnOk result (IfSome (E.sight eye.old).bytes (λ bytes. HoldsSymbols head.now set stripe (image_of head.now bytes) image.new)) }
+    ensures copied { OnOk result (IfSome (E.sight eye.old).bytes (λ bytes.
+        HoldsSymbols head.now set stripe (image_of head.now bytes) image.new)) }
     ensures kept { KeepsOthers head.now set stripe image.old image.new }
-    ensures taken { OnOk result (E.sight eye.new ≡ sight_with (E.sight eye.old) (length (members set) * head.now.symbol_bytes)) }
+    ensures taken { OnOk result (E.sight eye.new ≡ sight_with (E.sight eye.old)
+        (length (members set) * head.now.symbol_bytes)) }
     ensures file { IsSameFile (E.sight eye.old) (E.sight eye.new) }
     ensures cause { HasCause (E.faults eye.old) (E.faults eye.new) result }
 {
@@ -63,34 +68,43 @@ fn copy_stripe<E: Eye>(
             continue;
         }
         end = run_end(set, symbol);
-        copy_run(eye, head, stripe, symbol, end, image)?;
+        let run = Run { first: symbol, end };
+        copy_run(eye, head, stripe, run, image)?;
     }
     Ok(())
 }
 
-/// Reads the symbols from `first` up to `end`, which is not one of them, to their places in one stripe, by one read.
+/// Neighbours among the symbols of a stripe: those from `first` up to `end`, which is not one of them.
+#[derive(Clone, Copy)]
+struct Run {
+    first: u8,
+    end: u8,
+}
+
+/// Reads the symbols of a run to their places in one stripe, by one read.
 fn copy_run<E: Eye>(
     eye: &mut E,
     head: &ImageHead,
     stripe: u32,
-    first: u8,
-    end: u8,
+    run: Run,
     image: &mut [u8],
 ) -> Result<(), Failed>
     requires eye { HasImage head.now (E.sight eye.old) }
     requires stripe { stripe < head.now.stripes }
-    requires first { first < end }
-    requires end { end ≤ stripe_symbols head.now }
+    requires first { run.first < run.end }
+    requires end { run.end ≤ stripe_symbols head.now }
     requires image { length image.old ≡ file_bytes head.now }
-    ensures copied { OnOk result (IfSome (E.sight eye.old).bytes (λ bytes. HoldsRun head.now stripe first end (image_of head.now bytes) image.new)) }
-    ensures kept { KeepsBesides head.now stripe first end image.old image.new }
-    ensures taken { OnOk result (E.sight eye.new ≡ sight_with (E.sight eye.old) ((end - first) * head.now.symbol_bytes)) }
+    ensures copied { OnOk result (IfSome (E.sight eye.old).bytes (λ bytes.
+        HoldsRun head.now stripe run.first run.end (image_of head.now bytes) image.new)) }
+    ensures kept { KeepsBesides head.now stripe run.first run.end image.old image.new }
+    ensures taken { OnOk result (E.sight eye.new ≡ sight_with (E.sight eye.old)
+        ((run.end - run.first) * head.now.symbol_bytes)) }
     ensures file { IsSameFile (E.sight eye.old) (E.sight eye.new) }
     ensures cause { HasCause (E.faults eye.old) (E.faults eye.new) result }
 {
-    let place = head.place(stripe, first);
+    let place = head.place(stripe, run.first);
     let at = place as usize;
-    let size = usize::from(end - first) * head.bytes() as usize;
+    let size = usize::from(run.end - run.first) * head.bytes() as usize;
     eye.read_at(place, &mut image[at..at + size])
 }
 

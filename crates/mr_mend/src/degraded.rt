@@ -1,16 +1,15 @@
 //! The degraded read: a lost symbol from the few symbols that are read for it alone.
 
-ghost use Rattle.std.specs.Prelude.{◌≡◌, ◌*◌, ◌^◌, ◌<◌, length, IfSome, OnOk};
+ghost use Rattle.std.specs.Prelude.{◌≡◌, ◌*◌, ◌<◌, length, IfSome, OnOk};
 ghost use Rattle.std.specs.Int.{bit_at};
 ghost use Rattle.mr_model.specs.Members.{members};
 ghost use Rattle.mr_eq.specs.Singles.{survivors};
 ghost use Rattle.mr_io.specs.Counts.{HasCause};
 ghost use Rattle.mr_io.specs.Sights.{sight_with};
-ghost use Rattle.mr_image.specs.Images.{every_stripe, image_of, near as near_reply, singles_of, stripe_of, stripe_symbols, xor_symbols};
+ghost use Rattle.mr_image.specs.Images.{every_stripe, image_of, near as near_reply, singles_of, stripe_symbols};
 ghost use Rattle.mr_mend.specs.Mending.{HasImage, IsSameFile};
 
 use crate::asks::Ask;
-use mr_bits::Mask;
 use mr_eq::Singles;
 use mr_image::ImageHead;
 use mr_io::{Eye, Failed};
@@ -36,40 +35,21 @@ pub fn near<E: Eye>(
     requires lost { bit_at singles.now.lost ask.symbol ≡ 1 }
     requires buf { length buf.old ≡ head.now.symbol_bytes }
     requires tmp { length tmp.old ≡ head.now.symbol_bytes }
-    ensures near { let sets = singles_of (every_stripe singles.now.code) (every_stripe (survivors singles.now.code singles.now.lost)) singles.now.budget in
-        OnOk result (IfSome (E.sight eye.old).bytes (λ bytes. buf.new ≡ near_reply head.now sets (image_of head.now bytes) ask.stripe ask.symbol)) }
-    ensures taken { let sets = singles_of (every_stripe singles.now.code) (every_stripe (survivors singles.now.code singles.now.lost)) singles.now.budget in
-        OnOk result (E.sight eye.new ≡ sight_with (E.sight eye.old) (length (members (sets ask.stripe ask.symbol)) * head.now.symbol_bytes)) }
+    ensures near { let sets = singles_of (every_stripe singles.now.code)
+        (every_stripe (survivors singles.now.code singles.now.lost)) singles.now.budget in
+        OnOk result (IfSome (E.sight eye.old).bytes (λ bytes.
+        buf.new ≡ near_reply head.now sets (image_of head.now bytes) ask.stripe ask.symbol)) }
+    ensures taken { let sets = singles_of (every_stripe singles.now.code)
+        (every_stripe (survivors singles.now.code singles.now.lost)) singles.now.budget in
+        OnOk result (E.sight eye.new ≡ sight_with (E.sight eye.old)
+        (length (members (sets ask.stripe ask.symbol)) * head.now.symbol_bytes)) }
     ensures file { IsSameFile (E.sight eye.old) (E.sight eye.new) }
     ensures cause { HasCause (E.faults eye.old) (E.faults eye.new) result }
 {
     let set = singles.get(ask.symbol);
-    xor_of_set(eye, head, set, kernel, ask.stripe, buf, tmp)
-}
-
-/// Makes `buf` the XOR of the symbols of a set in one stripe. Each is read once, upwards, into `tmp`.
-fn xor_of_set<E: Eye>(
-    eye: &mut E,
-    head: &ImageHead,
-    set: Mask,
-    kernel: &XorKernel,
-    stripe: u32,
-    buf: &mut [u8],
-    tmp: &mut [u8],
-) -> Result<(), Failed>
-    requires eye { HasImage head.now (E.sight eye.old) }
-    requires set { set < 2 ^ stripe_symbols head.now }
-    requires stripe { stripe < head.now.stripes }
-    requires buf { length buf.old ≡ head.now.symbol_bytes }
-    requires tmp { length tmp.old ≡ head.now.symbol_bytes }
-    ensures sum { OnOk result (IfSome (E.sight eye.old).bytes (λ bytes. buf.new ≡ xor_symbols head.now.symbol_bytes (stripe_of head.now (image_of head.now bytes) stripe) set)) }
-    ensures taken { OnOk result (E.sight eye.new ≡ sight_with (E.sight eye.old) (length (members set) * head.now.symbol_bytes)) }
-    ensures file { IsSameFile (E.sight eye.old) (E.sight eye.new) }
-    ensures cause { HasCause (E.faults eye.old) (E.faults eye.new) result }
-{
     buf.fill(0);
     for symbol in set.symbols() {
-        eye.read_at(head.place(stripe, symbol), tmp)?;
+        eye.read_at(head.place(ask.stripe, symbol), tmp)?;
         kernel.xor_into(buf, tmp);
     }
     Ok(())

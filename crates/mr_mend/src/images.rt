@@ -7,11 +7,11 @@ ghost use Rattle.mr_image.specs.Images.{image_of, stripe_symbols};
 ghost use Rattle.mr_image.specs.Heads.{file_bytes};
 ghost use Rattle.mr_mend.specs.Mending.{IsMendable, IsUpwards, HasImage, IsSameFile, HoldsMended, PutsSymbols};
 
+use crate::rebuilds::Rebuild;
 use crate::stripes::mend_stripe;
 use mr_image::ImageHead;
 use mr_io::{Eye, Failed};
-use mr_kern::XorKernel;
-use mr_plan::{Plan, Recipe};
+use mr_plan::Recipe;
 
 /// Puts each symbol that has a recipe, rebuilt, to its place in `image`, which has the bytes of the whole file.
 ///
@@ -19,24 +19,33 @@ use mr_plan::{Plan, Recipe};
 /// symbol for each recipe. It takes no memory. A read that fails is answered at once, and `image` is then of no use.
 pub fn mend_all<E: Eye>(
     eye: &mut E,
-    head: &ImageHead,
-    plan: &Plan,
-    kernel: &XorKernel,
+    rebuild: &Rebuild,
     buf: &mut [u8],
     lost: &mut [u8],
     image: &mut [u8],
 ) -> Result<(), Failed>
-    requires eye { HasImage head.now (E.sight eye.old) }
-    requires plan { IsMendable head.now plan.now }
-    requires buf { length buf.old ≡ head.now.symbol_bytes }
-    requires lost { length lost.old ≡ length plan.now.recipes * head.now.symbol_bytes }
-    requires image { length image.old ≡ file_bytes head.now }
-    ensures mended { OnOk result (IfSome (E.sight eye.old).bytes (λ bytes. HoldsMended head.now plan.now.recipes (image_of head.now bytes) image.new)) }
+    requires eye { HasImage rebuild.now.head.now (E.sight eye.old) }
+    requires plan { IsMendable rebuild.now.head.now rebuild.now.plan.now }
+    requires buf { length buf.old ≡ rebuild.now.head.now.symbol_bytes }
+    requires lost { length lost.old
+        ≡ length rebuild.now.plan.now.recipes * rebuild.now.head.now.symbol_bytes }
+    requires image { length image.old ≡ file_bytes rebuild.now.head.now }
+    ensures mended { OnOk result (IfSome (E.sight eye.old).bytes (λ bytes.
+        HoldsMended rebuild.now.head.now rebuild.now.plan.now.recipes
+        (image_of rebuild.now.head.now bytes) image.new)) }
     ensures front { take 32 image.new ≡ take 32 image.old }
-    ensures taken { OnOk result (E.sight eye.new ≡ sight_with (E.sight eye.old) (head.now.stripes * (length (members plan.now.set) * head.now.symbol_bytes))) }
+    ensures taken { OnOk result (E.sight eye.new ≡ sight_with (E.sight eye.old)
+        (rebuild.now.head.now.stripes * (length (members rebuild.now.plan.now.set)
+        * rebuild.now.head.now.symbol_bytes))) }
     ensures file { IsSameFile (E.sight eye.old) (E.sight eye.new) }
     ensures cause { HasCause (E.faults eye.old) (E.faults eye.new) result }
 {
+    let Rebuild {
+        head,
+        plan,
+        kernel,
+        ..
+    } = *rebuild;
     for stripe in 0..head.stripes() {
         mend_stripe(eye, head, plan, kernel, stripe, buf, lost)?;
         put_symbols(head, plan.recipes(), stripe, lost, image);

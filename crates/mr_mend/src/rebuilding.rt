@@ -1,27 +1,31 @@
-ghost use Rattle.std.specs.Prelude.{◌≡◌, ◌+◌, ◌*◌, ◌≤◌, ◌⊎◌, length, take, Some, All, IfOk, IfSome, OnErr, OnOk};
+ghost use Rattle.std.specs.Prelude.{◌≡◌, ◌*◌, ◌≤◌, ◌⊎◌, length, take, Some, All, IfOk, IfSome, OnErr, OnOk};
 ghost use Rattle.mr_model.specs.Members.{members};
 ghost use Rattle.mr_io.specs.Counts.{Rose};
 ghost use Rattle.mr_io.specs.Sights.{sight_with};
 ghost use Rattle.mr_image.specs.Images.{every_stripe, image_of, mended};
 ghost use Rattle.mr_image.specs.Heads.{file_bytes, head_bytes};
 ghost use Rattle.mr_mend.specs.Mending.{IsMendable, HasImage, IsSameFile, IsRoomFor, copied_set, mended_file};
+ghost use Rattle.mr_mend.specs.Replies.{line_room};
 ghost use Rattle.mr_mend.specs.Scripts.{IsInRange};
 ghost use Rattle.mr_mend.specs.Serving.{live_reads, reply_bytes};
 
 use crate::asks::Ask;
 use crate::copies::copy_survivors;
 use crate::images::mend_all;
+use crate::rebuilds::Rebuild;
 use crate::serving::serve_asks;
 use mr_bits::NoMemory;
 use mr_image::ImageHead;
 use mr_io::{Eye, Failed};
-use mr_kern::XorKernel;
 use mr_plan::Plan;
 use std::alloc::Global;
 use std::marker::Model;
 
+/// The most bytes of lines that are gathered before they are put, but where one line alone has more.
+const GATHERED: usize = 65_536;
+
 /// The memory of a rebuild: the bytes of the whole file, of one symbol, of one symbol for each recipe, of one symbol for
-/// each read of a script, and of the line of one reply.
+/// each read of a script, and of the lines of replies that are gathered.
 #[derive(Drop)]
 pub struct Room {
     image: Vec<u8>,
@@ -60,7 +64,7 @@ impl Room {
             buf: vec![in alloc; 0; size]?,
             lost: vec![in alloc; 0; plan.recipes().len() * size]?,
             replies: vec![in alloc; 0; reply_bytes]?,
-            line: vec![in alloc; 0; 2 * size + 32]?,
+            line: vec![in alloc; 0; (2 * size + 32).max(GATHERED)]?,
         })
     }
 }
@@ -72,7 +76,7 @@ pub struct Rebuilt {
     pub image: Vec<u8>,
     /// The bytes of the replies, one symbol for each read, in the order of the reads.
     pub replies: Vec<u8>,
-    /// The room for the line of one reply: two bytes for each byte of a symbol, and 32 more.
+    /// The room for the lines that are gathered before they are put: for one at least.
     pub line: Vec<u8>,
 }
 
@@ -86,34 +90,49 @@ pub fn rebuild<E: Eye>(
     mend_eye: &mut E,
     live_eye: &mut E,
     copy_eye: &mut E,
-    head: &ImageHead,
-    plan: &Plan,
-    kernel: &XorKernel,
-    asks: &[Ask],
+    rebuild: &Rebuild,
     room: Room,
 ) -> Result<Rebuilt, Failed>
-    requires mend_eye { HasImage head.now (E.sight mend_eye.old) }
-    requires live_eye { HasImage head.now (E.sight live_eye.old) }
-    requires copy_eye { HasImage head.now (E.sight copy_eye.old) }
-    requires plan { IsMendable head.now plan.now }
-    requires asks { All (IsInRange head.now) asks.now }
-    requires room { IsRoomFor head.now plan.now asks.now room }
-    ensures rebuilt { IfOk result (λ rebuilt. IfSome (E.sight mend_eye.old).bytes (λ bytes. (E.sight live_eye.old).bytes ≡ Some bytes → (E.sight copy_eye.old).bytes ≡ Some bytes
-        → rebuilt.image.items ≡ mended_file head.now plan.now.recipes bytes)) }
-    ensures replies { IfOk result (λ rebuilt. IfSome (E.sight mend_eye.old).bytes (λ bytes. (E.sight live_eye.old).bytes ≡ Some bytes → (E.sight copy_eye.old).bytes ≡ Some bytes
-        → rebuilt.replies.items ≡ reply_bytes (mended head.now (every_stripe plan.now.recipes) (image_of head.now bytes)) asks.now)) }
-    ensures count { IfOk result (λ rebuilt. length rebuilt.replies.items ≡ length asks.now * head.now.symbol_bytes) }
-    ensures line { IfOk result (λ rebuilt. length rebuilt.line.items ≡ 2 * head.now.symbol_bytes + 32) }
-    ensures mend_taken { OnOk result (E.sight mend_eye.new ≡ sight_with (E.sight mend_eye.old) (head.now.stripes * (length (members plan.now.set) * head.now.symbol_bytes))) }
-    ensures live_taken { OnOk result (E.sight live_eye.new ≡ sight_with (E.sight live_eye.old) (live_reads head.now plan.now.recipes asks.now)) }
-    ensures copy_taken { OnOk result (E.sight copy_eye.new ≡ sight_with (E.sight copy_eye.old) (head.now.stripes * (length (members (copied_set head.now plan.now.recipes)) * head.now.symbol_bytes))) }
+    requires mend_eye { HasImage rebuild.now.head.now (E.sight mend_eye.old) }
+    requires live_eye { HasImage rebuild.now.head.now (E.sight live_eye.old) }
+    requires copy_eye { HasImage rebuild.now.head.now (E.sight copy_eye.old) }
+    requires plan { IsMendable rebuild.now.head.now rebuild.now.plan.now }
+    requires asks { All (IsInRange rebuild.now.head.now) rebuild.now.asks.now }
+    requires room { IsRoomFor rebuild.now.head.now rebuild.now.plan.now rebuild.now.asks.now room }
+    ensures rebuilt { IfOk result (λ rebuilt. IfSome (E.sight mend_eye.old).bytes (λ bytes.
+        (E.sight live_eye.old).bytes ≡ Some bytes → (E.sight copy_eye.old).bytes ≡ Some bytes
+        → rebuilt.image.items
+        ≡ mended_file rebuild.now.head.now rebuild.now.plan.now.recipes bytes)) }
+    ensures replies { IfOk result (λ rebuilt. IfSome (E.sight mend_eye.old).bytes (λ bytes.
+        (E.sight live_eye.old).bytes ≡ Some bytes → (E.sight copy_eye.old).bytes ≡ Some bytes
+        → rebuilt.replies.items ≡ reply_bytes
+        (mended rebuild.now.head.now (every_stripe rebuild.now.plan.now.recipes)
+        (image_of rebuild.now.head.now bytes)) rebuild.now.asks.now)) }
+    ensures count { IfOk result (λ rebuilt. length rebuilt.replies.items
+        ≡ length rebuild.now.asks.now * rebuild.now.head.now.symbol_bytes) }
+    ensures line { IfOk result (λ rebuilt.
+        line_room rebuild.now.head.now ≤ length rebuilt.line.items) }
+    ensures mend_taken { OnOk result (E.sight mend_eye.new ≡ sight_with (E.sight mend_eye.old)
+        (rebuild.now.head.now.stripes * (length (members rebuild.now.plan.now.set)
+        * rebuild.now.head.now.symbol_bytes))) }
+    ensures live_taken { OnOk result (E.sight live_eye.new ≡ sight_with (E.sight live_eye.old)
+        (live_reads rebuild.now.head.now rebuild.now.plan.now.recipes rebuild.now.asks.now)) }
+    ensures copy_taken { OnOk result (E.sight copy_eye.new ≡ sight_with (E.sight copy_eye.old)
+        (rebuild.now.head.now.stripes
+        * (length (members (copied_set rebuild.now.head.now rebuild.now.plan.now.recipes))
+        * rebuild.now.head.now.symbol_bytes))) }
     ensures mend_file { IsSameFile (E.sight mend_eye.old) (E.sight mend_eye.new) }
     ensures live_file { IsSameFile (E.sight live_eye.old) (E.sight live_eye.new) }
     ensures copy_file { IsSameFile (E.sight copy_eye.old) (E.sight copy_eye.new) }
     ensures mend_later { E.faults mend_eye.old ≤ E.faults mend_eye.new }
     ensures live_later { E.faults live_eye.old ≤ E.faults live_eye.new }
     ensures copy_later { E.faults copy_eye.old ≤ E.faults copy_eye.new }
-    ensures cause { OnErr result (Rose (E.faults mend_eye.old) (E.faults mend_eye.new) ⊎ (Rose (E.faults live_eye.old) (E.faults live_eye.new) ⊎ Rose (E.faults copy_eye.old) (E.faults copy_eye.new))) }
+    ensures mend_quiet { OnOk result (E.faults mend_eye.new ≡ E.faults mend_eye.old) }
+    ensures live_quiet { OnOk result (E.faults live_eye.new ≡ E.faults live_eye.old) }
+    ensures copy_quiet { OnOk result (E.faults copy_eye.new ≡ E.faults copy_eye.old) }
+    ensures cause { OnErr result (Rose (E.faults mend_eye.old) (E.faults mend_eye.new)
+        ⊎ (Rose (E.faults live_eye.old) (E.faults live_eye.new)
+        ⊎ Rose (E.faults copy_eye.old) (E.faults copy_eye.new))) }
 {
     let Room {
         mut image,
@@ -122,69 +141,15 @@ pub fn rebuild<E: Eye>(
         mut replies,
         line,
     } = room;
-    rebuild_into(
-        mend_eye,
-        live_eye,
-        copy_eye,
-        head,
-        plan,
-        kernel,
-        asks,
-        &mut buf,
-        &mut lost,
-        &mut image,
-        &mut replies,
-    )?;
+    print_head(rebuild.head, &mut image);
+    mend_all(mend_eye, rebuild, &mut buf, &mut lost, &mut image)?;
+    serve_asks(live_eye, rebuild, &image, &mut replies)?;
+    copy_survivors(copy_eye, rebuild.head, rebuild.plan, &mut image)?;
     Ok(Rebuilt {
         image,
         replies,
         line,
     })
-}
-
-/// Makes `image` the bytes of that file, and `replies` those symbols. `buf` has the bytes of one symbol, `lost` those of
-/// one for each recipe, and `replies` those of one for each ask.
-fn rebuild_into<E: Eye>(
-    mend_eye: &mut E,
-    live_eye: &mut E,
-    copy_eye: &mut E,
-    head: &ImageHead,
-    plan: &Plan,
-    kernel: &XorKernel,
-    asks: &[Ask],
-    buf: &mut [u8],
-    lost: &mut [u8],
-    image: &mut [u8],
-    replies: &mut [u8],
-) -> Result<(), Failed>
-    requires mend_eye { HasImage head.now (E.sight mend_eye.old) }
-    requires live_eye { HasImage head.now (E.sight live_eye.old) }
-    requires copy_eye { HasImage head.now (E.sight copy_eye.old) }
-    requires plan { IsMendable head.now plan.now }
-    requires asks { All (IsInRange head.now) asks.now }
-    requires buf { length buf.old ≡ head.now.symbol_bytes }
-    requires lost { length lost.old ≡ length plan.now.recipes * head.now.symbol_bytes }
-    requires image { length image.old ≡ file_bytes head.now }
-    requires replies { length replies.old ≡ length asks.now * head.now.symbol_bytes }
-    ensures rebuilt { OnOk result (IfSome (E.sight mend_eye.old).bytes (λ bytes. (E.sight copy_eye.old).bytes ≡ Some bytes
-        → image.new ≡ mended_file head.now plan.now.recipes bytes)) }
-    ensures replies { OnOk result (IfSome (E.sight mend_eye.old).bytes (λ bytes. (E.sight live_eye.old).bytes ≡ Some bytes
-        → replies.new ≡ reply_bytes (mended head.now (every_stripe plan.now.recipes) (image_of head.now bytes)) asks.now)) }
-    ensures mend_taken { OnOk result (E.sight mend_eye.new ≡ sight_with (E.sight mend_eye.old) (head.now.stripes * (length (members plan.now.set) * head.now.symbol_bytes))) }
-    ensures live_taken { OnOk result (E.sight live_eye.new ≡ sight_with (E.sight live_eye.old) (live_reads head.now plan.now.recipes asks.now)) }
-    ensures copy_taken { OnOk result (E.sight copy_eye.new ≡ sight_with (E.sight copy_eye.old) (head.now.stripes * (length (members (copied_set head.now plan.now.recipes)) * head.now.symbol_bytes))) }
-    ensures mend_file { IsSameFile (E.sight mend_eye.old) (E.sight mend_eye.new) }
-    ensures live_file { IsSameFile (E.sight live_eye.old) (E.sight live_eye.new) }
-    ensures copy_file { IsSameFile (E.sight copy_eye.old) (E.sight copy_eye.new) }
-    ensures mend_later { E.faults mend_eye.old ≤ E.faults mend_eye.new }
-    ensures live_later { E.faults live_eye.old ≤ E.faults live_eye.new }
-    ensures copy_later { E.faults copy_eye.old ≤ E.faults copy_eye.new }
-    ensures cause { OnErr result (Rose (E.faults mend_eye.old) (E.faults mend_eye.new) ⊎ (Rose (E.faults live_eye.old) (E.faults live_eye.new) ⊎ Rose (E.faults copy_eye.old) (E.faults copy_eye.new))) }
-{
-    print_head(head, image);
-    mend_all(mend_eye, head, plan, kernel, buf, lost, image)?;
-    serve_asks(live_eye, head, plan, asks, image, replies)?;
-    copy_survivors(copy_eye, head, plan, image)
 }
 
 /// Makes the first 32 bytes the head.

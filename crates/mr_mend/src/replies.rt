@@ -1,10 +1,10 @@
 //! The lines of replies: one for each read.
 
-ghost use Rattle.std.specs.Prelude.{◌≡◌, ◌+◌, ◌*◌, ◌≤◌, ◌++◌, decimal, length, take};
+ghost use Rattle.std.specs.Prelude.{◌≡◌, ◌+◌, ◌*◌, ◌≤◌, ◌++◌, decimal, length, take, IfOk, OnErr};
 ghost use Rattle.arrayvec.specs.ArrayVec.{array_vec_len};
 ghost use Rattle.mr_io.specs.Counts.{HasCause};
-ghost use Rattle.mr_io.specs.Taking.{Puts};
-ghost use Rattle.mr_mend.specs.Replies.{buffer_lines, reply_front, reply_line};
+ghost use Rattle.mr_io.specs.Taking.{Puts, TakesPart};
+ghost use Rattle.mr_mend.specs.Replies.{PutsFront, buffer_lines, line_room, reply_front, reply_line};
 
 use crate::asks::Ask;
 use arrayvec::ArrayVec;
@@ -15,48 +15,58 @@ use mr_io::{Failed, Sink, put_all};
 /// Room for the front of a line: `reply `, a number of up to ten digits, a space, one of up to three, and a space.
 const ROOM: usize = 31;
 
-/// Puts the line of each reply. The replies stand one after another in `replies`, in the order of the asks, each of the
-/// bytes of one symbol.
+/// Puts the line of each reply: `reply `, the stripe, the symbol, and the bytes of the symbol as two lower-case hexadecimal
+/// digits each. The replies stand one after another in `replies`, in the order of the asks, each of the bytes of one symbol.
 ///
-/// `line` has two bytes for each byte of a symbol, and 32 more. It takes no memory. After `Failed` the sink took a front
-/// of the lines that is not all.
+/// The lines are gathered in `lines`, which has room for one at least: two bytes for each byte of a symbol, and 32 more.
+/// They are put where there is no room for another, and at the end. It takes no memory. After `Failed` the sink took a
+/// front of the lines that is not all.
 pub fn print_replies<K: Sink>(
     out: &mut K,
     asks: &[Ask],
     replies: &[u8],
     head: &ImageHead,
-    line: &mut [u8],
+    lines: &mut [u8],
 ) -> Result<(), Failed>
     requires replies { length replies.now ≡ length asks.now * head.now.symbol_bytes }
-    requires line { 2 * head.now.symbol_bytes + 32 ≤ length line.old }
-    ensures puts { Puts (K.held out.old) (K.held out.new) result (buffer_lines head.now.symbol_bytes asks.now replies.now) }
+    requires lines { line_room head.now ≤ length lines.old }
+    ensures puts { Puts (K.held out.old) (K.held out.new) result
+        (buffer_lines head.now.symbol_bytes asks.now replies.now) }
     ensures cause { HasCause (K.faults out.old) (K.faults out.new) result }
 {
     let size = head.bytes() as usize;
+    let mut gathered = 0;
     for (k, ask) in asks.iter().enumerate() {
         let at = k * size;
-        print_reply(out, *ask, &replies[at..at + size], line)?;
+        gathered = put_where_full(out, lines, gathered, 2 * size + 32)?;
+        gathered += write_line(*ask, &replies[at..at + size], &mut lines[gathered..]);
     }
-    Ok(())
+    put_all(out, &lines[..gathered])
 }
 
-/// Puts the line of one reply: `reply `, the stripe, the symbol, and the bytes of the symbol as two lower-case hexadecimal
-/// digits each.
-///
-/// `line` has two bytes for each byte of the symbol, and 32 more. It takes no memory, and puts the line at once. After
-/// `Failed` the sink took a front of the line that is not all.
-pub fn print_reply<K: Sink>(
+/// Puts the first `gathered` bytes of `lines` where `room` more have no place behind them. It says how many bytes are then
+/// gathered.
+fn put_where_full<K: Sink>(
     out: &mut K,
-    ask: Ask,
-    symbol: &[u8],
-    line: &mut [u8],
-) -> Result<(), Failed>
-    requires { 2 * length symbol.now + 32 ≤ length line.old }
-    ensures puts { Puts (K.held out.old) (K.held out.new) result (reply_line ask symbol.now) }
+    lines: &[u8],
+    gathered: usize,
+    room: usize,
+) -> Result<usize, Failed>
+    requires gathered { gathered ≤ length lines.now }
+    requires room { room ≤ length lines.now }
+    ensures free { IfOk result (λ left. left + room ≤ length lines.now) }
+    ensures put { IfOk result (λ left.
+        PutsFront (K.held out.old) (K.held out.new) (take gathered lines.now)
+        (take left lines.now)) }
+    ensures cut { OnErr result
+        (TakesPart (K.held out.old) (K.held out.new) (take gathered lines.now)) }
     ensures cause { HasCause (K.faults out.old) (K.faults out.new) result }
 {
-    let end = write_line(ask, symbol, line);
-    put_all(out, &line[..end])
+    if room <= lines.len() - gathered {
+        return Ok(gathered);
+    }
+    put_all(out, &lines[..gathered])?;
+    Ok(0)
 }
 
 /// Makes the front of `line` that line, and says where it ends.

@@ -1,13 +1,14 @@
 //! The reading of a script: one read on each line.
 
-ghost use Rattle.std.specs.Prelude.{◌≡◌, ℕ, ◌==◌, ◌+◌, ◌<◌, ◌≤◌, ◌⊎◌, Some, Ok, Err, length, All, IfOk, IfErr, IfSome, MatchOption};
-ghost use Rattle.std.specs.List.{position, position_or_len, before_first, after_first};
-ghost use Rattle.mr_mend.specs.Scripts.{IsInRange, ask_of, asks_from, asks_of, joined, pieces};
+ghost use Rattle.std.specs.Prelude.{◌≡◌, ℕ, ◌==◌, ◌+◌, ◌<◌, ◌≤◌, ◌⊎◌, Some, Ok, Err, length, All, IfOk, IfErr, IfSome, IsErrOf, MatchOption};
+ghost use Rattle.mr_text.specs.Lines.{pieces};
+ghost use Rattle.mr_bits.specs.declared.errors.Large.{Large};
+ghost use Rattle.mr_mend.specs.Scripts.{HasFirstBadLine, HasLargeReplies, IsInRange, ask_of, asks_from, asks_of, joined, script_limit, script_text};
 
 use crate::asks::{Ask, ScriptFault};
 use mr_bits::{Large, What};
 use mr_image::ImageHead;
-use mr_text::read_number;
+use mr_text::{read_number, split_at_byte};
 use std::alloc::Global;
 
 /// The most bytes of all replies.
@@ -19,13 +20,22 @@ const REPLY_LIMIT: u64 = 67_108_864;
 /// It answers `Line` at the first line that is not of its form, and then `Large` with `ReplyBytes` and the bytes of all
 /// replies where these are above 67,108,864. It goes through the bytes once.
 pub fn read_script(alloc: Global, bytes: &[u8], head: &ImageHead) -> Result<Vec<Ask>, ScriptFault>
-    requires { length bytes.now ≤ 1048576 }
+    requires { length bytes.now ≤ script_limit }
     ensures asks { IfOk result (λ asks. asks_of head.now bytes.now ≡ Ok asks.items) }
-    ensures fault { IfErr result (λ fault. (fault ≡ ScriptFault.Memory) ⊎ (asks_of head.now bytes.now ≡ Err fault)) }
+    ensures fault { IfErr result (λ fault.
+        (fault ≡ ScriptFault.Memory) ⊎ (asks_of head.now bytes.now ≡ Err fault)) }
+
+    // What these say of the bytes: they are the text of the reads, or what is wrong with them.
+    ensures text { IfOk result (λ asks. bytes.now ≡ script_text asks.items) }
     ensures in_range { IfOk result (λ asks. All (IsInRange head.now) asks.items) }
+    ensures bad_line { (line : ℕ) → IsErrOf result (ScriptFault.Line line)
+        → HasFirstBadLine head.now bytes.now line }
+    ensures large { (large : Large) → IsErrOf result (ScriptFault.Large large)
+        → HasLargeReplies head.now bytes.now large }
 {
+    let size = u64::from(head.bytes());
     let asks = read_lines(alloc, bytes, head)?;
-    let number = asks.len() as u64 * u64::from(head.bytes());
+    let number = asks.len() as u64 * size;
     if number > REPLY_LIMIT {
         return Err(ScriptFault::Large(Large {
             what: What::ReplyBytes,
@@ -37,9 +47,11 @@ pub fn read_script(alloc: Global, bytes: &[u8], head: &ImageHead) -> Result<Vec<
 
 /// The read of each line, or the first line that is none.
 fn read_lines(alloc: Global, bytes: &[u8], head: &ImageHead) -> Result<Vec<Ask>, ScriptFault>
-    requires { length bytes.now ≤ 1048576 }
-    ensures asks { IfOk result (λ asks. asks_from head.now 1 (pieces bytes.now) ≡ Ok asks.items) }
-    ensures fault { IfErr result (λ fault. (fault ≡ ScriptFault.Memory) ⊎ (asks_from head.now 1 (pieces bytes.now) ≡ Err fault)) }
+    requires { length bytes.now ≤ script_limit }
+    ensures asks { IfOk result (λ asks.
+        asks_from head.now 1 (pieces 10 bytes.now) ≡ Ok asks.items) }
+    ensures fault { IfErr result (λ fault.
+        (fault ≡ ScriptFault.Memory) ⊎ (asks_from head.now 1 (pieces 10 bytes.now) ≡ Err fault)) }
     ensures in_range { IfOk result (λ asks. All (IsInRange head.now) asks.items) }
     ensures few { IfOk result (λ asks. length asks.items ≤ length bytes.now) }
 {
@@ -57,8 +69,10 @@ fn read_lines(alloc: Global, bytes: &[u8], head: &ImageHead) -> Result<Vec<Ask>,
 /// The read of the line at the front, and what is left behind its line feed, or None where that line is none.
 fn next_ask<'a>(left: &'a [u8], head: &ImageHead) -> Option<(Ask, &'a [u8])>
     requires { 0 < length left.now }
-    ensures value { (n : ℕ) → MatchOption result (asks_from head.now n (pieces left.now) ≡ Err (ScriptFault.Line n))
-        (λ next. asks_from head.now n (pieces left.now) ≡ joined n (Some next.0) (asks_from head.now (n + 1) (pieces next.1.now))) }
+    ensures value { (n : ℕ) → MatchOption result
+        (asks_from head.now n (pieces 10 left.now) ≡ Err (ScriptFault.Line n))
+        (λ next. asks_from head.now n (pieces 10 left.now)
+        ≡ joined n (Some next.0) (asks_from head.now (n + 1) (pieces 10 next.1.now))) }
     ensures in_range { IfSome result (λ next. IsInRange head.now next.0) }
     ensures shorter { IfSome result (λ next. length next.1.now < length left.now) }
 {
@@ -83,21 +97,4 @@ fn read_ask(line: &[u8], head: &ImageHead) -> Option<Ask>
     } else {
         None
     }
-}
-
-/// What stands before the first `byte`, and what stands behind it, or None where there is none.
-fn split_at_byte(bytes: &[u8], byte: u8) -> Option<(&[u8], &[u8])>
-    ensures { MatchOption result (length bytes.now ≤ position_or_len (λ b. b == byte) bytes.now)
-        (λ split. (position_or_len (λ b. b == byte) bytes.now < length bytes.now)
-        × (split.0.now ≡ before_first (λ b. b == byte) bytes.now) × (split.1.now ≡ after_first (λ b. b == byte) bytes.now)) }
-{
-    let at = find_byte(bytes, byte)?;
-    Some((&bytes[..at], &bytes[at + 1..]))
-}
-
-/// The first place at which `byte` stands.
-fn find_byte(bytes: &[u8], byte: u8) -> Option<usize>
-    ensures { result ≡ position (λ b. b == byte) bytes.now }
-{
-    bytes.iter().position(|b| *b == byte)
 }

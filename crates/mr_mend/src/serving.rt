@@ -9,9 +9,8 @@ ghost use Rattle.mr_mend.specs.Serving.{live_reads, reply_bytes};
 
 use crate::asks::Ask;
 use crate::copies::is_rebuilt;
-use mr_image::ImageHead;
+use crate::rebuilds::Rebuild;
 use mr_io::{Eye, Failed};
-use mr_plan::Plan;
 
 /// Fills `replies` with the bytes of each ask's symbol of the mended image, one after another, in the order of the asks.
 ///
@@ -20,27 +19,31 @@ use mr_plan::Plan;
 /// ask. It takes no memory. A read that fails is answered at once, and `replies` is then of no use.
 pub fn serve_asks<E: Eye>(
     eye: &mut E,
-    head: &ImageHead,
-    plan: &Plan,
-    asks: &[Ask],
+    rebuild: &Rebuild,
     image: &[u8],
     replies: &mut [u8],
 ) -> Result<(), Failed>
-    requires eye { HasImage head.now (E.sight eye.old) }
-    requires asks { All (IsInRange head.now) asks.now }
-    requires image { length image.now ≡ file_bytes head.now }
-    requires replies { length replies.old ≡ length asks.now * head.now.symbol_bytes }
-    ensures served { OnOk result (IfSome (E.sight eye.old).bytes (λ bytes. HoldsMended head.now plan.now.recipes (image_of head.now bytes) image.now
-        → replies.new ≡ reply_bytes (mended head.now (every_stripe plan.now.recipes) (image_of head.now bytes)) asks.now)) }
-    ensures taken { OnOk result (E.sight eye.new ≡ sight_with (E.sight eye.old) (live_reads head.now plan.now.recipes asks.now)) }
+    requires eye { HasImage rebuild.now.head.now (E.sight eye.old) }
+    requires asks { All (IsInRange rebuild.now.head.now) rebuild.now.asks.now }
+    requires image { length image.now ≡ file_bytes rebuild.now.head.now }
+    requires replies { length replies.old
+        ≡ length rebuild.now.asks.now * rebuild.now.head.now.symbol_bytes }
+    ensures served { OnOk result (IfSome (E.sight eye.old).bytes (λ bytes.
+        HoldsMended rebuild.now.head.now rebuild.now.plan.now.recipes
+        (image_of rebuild.now.head.now bytes) image.now
+        → replies.new ≡ reply_bytes
+        (mended rebuild.now.head.now (every_stripe rebuild.now.plan.now.recipes)
+        (image_of rebuild.now.head.now bytes)) rebuild.now.asks.now)) }
+    ensures taken { OnOk result (E.sight eye.new ≡ sight_with (E.sight eye.old)
+        (live_reads rebuild.now.head.now rebuild.now.plan.now.recipes rebuild.now.asks.now)) }
     ensures file { IsSameFile (E.sight eye.old) (E.sight eye.new) }
     ensures cause { HasCause (E.faults eye.old) (E.faults eye.new) result }
 {
-    let size = head.bytes() as usize;
-    for (k, ask) in asks.iter().enumerate() {
+    let size = rebuild.head.bytes() as usize;
+    for (k, ask) in rebuild.asks.iter().enumerate() {
         let at = k * size;
         let reply = &mut replies[at..at + size];
-        serve_ask(eye, head, plan, *ask, image, reply)?;
+        serve_ask(eye, rebuild, *ask, image, reply)?;
     }
     Ok(())
 }
@@ -48,24 +51,27 @@ pub fn serve_asks<E: Eye>(
 /// Makes `reply`, which has the bytes of one symbol, the symbol of the mended image that is asked for.
 fn serve_ask<E: Eye>(
     eye: &mut E,
-    head: &ImageHead,
-    plan: &Plan,
+    rebuild: &Rebuild,
     ask: Ask,
     image: &[u8],
     reply: &mut [u8],
 ) -> Result<(), Failed>
-    requires eye { HasImage head.now (E.sight eye.old) }
-    requires ask { IsInRange head.now ask }
-    requires image { length image.now ≡ file_bytes head.now }
-    requires reply { length reply.old ≡ head.now.symbol_bytes }
-    ensures served { OnOk result (IfSome (E.sight eye.old).bytes (λ bytes. HoldsMended head.now plan.now.recipes (image_of head.now bytes) image.now
-        → reply.new ≡ mended head.now (every_stripe plan.now.recipes) (image_of head.now bytes) ask.stripe ask.symbol)) }
-    ensures taken { OnOk result (E.sight eye.new ≡ sight_with (E.sight eye.old) (live_reads head.now plan.now.recipes (ask ∷ []))) }
+    requires eye { HasImage rebuild.now.head.now (E.sight eye.old) }
+    requires ask { IsInRange rebuild.now.head.now ask }
+    requires image { length image.now ≡ file_bytes rebuild.now.head.now }
+    requires reply { length reply.old ≡ rebuild.now.head.now.symbol_bytes }
+    ensures served { OnOk result (IfSome (E.sight eye.old).bytes (λ bytes.
+        HoldsMended rebuild.now.head.now rebuild.now.plan.now.recipes
+        (image_of rebuild.now.head.now bytes) image.now
+        → reply.new ≡ mended rebuild.now.head.now (every_stripe rebuild.now.plan.now.recipes)
+        (image_of rebuild.now.head.now bytes) ask.stripe ask.symbol)) }
+    ensures taken { OnOk result (E.sight eye.new ≡ sight_with (E.sight eye.old)
+        (live_reads rebuild.now.head.now rebuild.now.plan.now.recipes (ask ∷ []))) }
     ensures file { IsSameFile (E.sight eye.old) (E.sight eye.new) }
     ensures cause { HasCause (E.faults eye.old) (E.faults eye.new) result }
 {
-    let place = head.place(ask.stripe, ask.symbol);
-    if !is_rebuilt(plan.recipes(), ask.symbol) {
+    let place = rebuild.head.place(ask.stripe, ask.symbol);
+    if !is_rebuilt(rebuild.plan.recipes(), ask.symbol) {
         return eye.read_at(place, reply);
     }
     let at = place as usize;

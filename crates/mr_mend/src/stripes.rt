@@ -29,8 +29,11 @@ pub fn mend_stripe<E: Eye>(
     requires stripe { stripe < head.now.stripes }
     requires buf { length buf.old ≡ head.now.symbol_bytes }
     requires lost { length lost.old ≡ length plan.now.recipes * head.now.symbol_bytes }
-    ensures mended { OnOk result (IfSome (E.sight eye.old).bytes (λ bytes. lost.new ≡ lost_bytes head.now (every_stripe plan.now.recipes) (image_of head.now bytes) stripe)) }
-    ensures taken { OnOk result (E.sight eye.new ≡ sight_with (E.sight eye.old) (length (members plan.now.set) * head.now.symbol_bytes)) }
+    ensures mended { OnOk result (IfSome (E.sight eye.old).bytes (λ bytes.
+        lost.new ≡ lost_bytes head.now (every_stripe plan.now.recipes)
+        (image_of head.now bytes) stripe)) }
+    ensures taken { OnOk result (E.sight eye.new ≡ sight_with (E.sight eye.old)
+        (length (members plan.now.set) * head.now.symbol_bytes)) }
     ensures file { IsSameFile (E.sight eye.old) (E.sight eye.new) }
     ensures cause { HasCause (E.faults eye.old) (E.faults eye.new) result }
 {
@@ -45,8 +48,10 @@ pub fn mend_stripe<E: Eye>(
 /// XORs a symbol into the slot of each recipe that has it.
 fn add_symbol(recipes: &[Recipe], kernel: &XorKernel, number: u8, symbol: &[u8], slots: &mut [u8])
     requires { length slots.old ≡ length recipes.now * length symbol.now }
-    ensures { (held : RecipeOf → List ℕ) → ((r : RecipeOf) → length (held r) ≡ length symbol.now) → slots.old ≡ flat_map held recipes.now
-        → slots.new ≡ flat_map (λ (r : RecipeOf). with_symbol number symbol.now r (held r)) recipes.now }
+    ensures { (held : RecipeOf → List ℕ) → ((r : RecipeOf) → length (held r) ≡ length symbol.now)
+        → slots.old ≡ flat_map held recipes.now
+        → slots.new ≡ flat_map (λ (r : RecipeOf). with_symbol number symbol.now r (held r))
+        recipes.now }
 {
     let size = symbol.len();
     for (k, recipe) in recipes.iter().enumerate() {

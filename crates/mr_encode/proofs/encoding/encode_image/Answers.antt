@@ -16,7 +16,7 @@ slice_bounds-copy_from_slice-end-2 g c =
 pub copy_from_slice-requires : goal.copy_from_slice-requires
 copy_from_slice-requires g c =
     let room : 32 ≤ length c.args.image.now = omega (arith, c.requires.image) in
-    let head : length c.print.result ≡ 32 = ap length c.print.ensures ∙ length-head_bytes c.args.head.now in
+    let head : length c.print.result ≡ 32 = ap length c.print.ensures ∙ length-head_bytes c.args.encoder.now.head.now in
     length-front 32 (length c.args.image.now - 32) c.args.image.now c.encode_stripes.new.body room ∙ sym head
 
 pub returns-clause-image : goal.returns-clause-image
