@@ -1,31 +1,43 @@
 -- The eyes of each command.
-use Rattle.std.proofs.Common.{◌≡◌, ℕ, ◌++◌, Ok, Err, append_assoc, List, [], ◌∷◌, Option, Some, None, Result, refl, ◌∙◌, ap, subst, IfSome}
+use Rattle.std.proofs.Common.{◌≡◌, ℕ, ◌++◌, Ok, Err, append_assoc, List, [], ◌∷◌, Option, Some, None, Result, refl, sym, ◌∙◌, ap, subst, IfSome}
 use Rattle.std.proofs.lemmas.List.{append-nil}
 use Rattle.mr_bits.specs.declared.errors.What.{What}
 use Rattle.mr_bits.specs.declared.errors.What.TheVariants.{MatrixBytes, PlanBytes}
 use Rattle.mr_form.specs.MatrixText.{matrix_of}
-use Rattle.mr_io.specs.Telling.{Told}
+use Rattle.mr_io.specs.Growth.{no_bytes}
+use Rattle.mr_io.specs.Telling.{AsksFront, Told}
+use Rattle.mr_io.proofs.Asking.{asks_more}
 use Rattle.mr_io.specs.declared.asked.Asked.{Asked}
 use Rattle.mr_io.specs.declared.totals.Totals.{Totals}
 use Rattle.mr_mend.specs.declared.asks.Ask.{Ask}
-use Rattle.mr_io.specs.declared.duty.Duty.TheVariants.{Text, Head, Mend, Live, Copy}
-use Rattle.mr_top.specs.Answer.{Output, answer, command_answer, command_eyes, copied_image, encode_answer, encoded_file, handed_file, head_file, image_eyes, matrix_file, mended_image, plan_eyes, plan_file, rebuild_answer, rebuild_by, rebuild_code, rebuild_handed, rebuild_layout, rebuild_loss, replied_image, or_matrix_fault, or_usage, check_answer, plan_answer, plan_given, text_file}
-use Rattle.mr_top.specs.Readings.{Reading, given, and_then, no_bytes, ◌>>=◌}
-use Rattle.mr_top.specs.Requests.{request_of}
-use Rattle.mr_top.specs.Steps.{AsksFront, FollowsWith, IsLeft}
-use Rattle.mr_top.specs.declared.fault.Fault.{Fault}
-use Rattle.mr_top.specs.declared.request.Request.{Request}
-use Rattle.mr_top.specs.declared.request.Request.TheVariants.{Plan, Check, Make, Encode, Rebuild}
-use Rattle.mr_top.specs.CheckReply.{cost_given}
-use Rattle.mr_top.specs.Losses.{targets_given}
-use Rattle.mr_top.proofs.Chains.{asks_more, eyes-given}
+use Rattle.mr_io.specs.declared.duty.Duty.TheVariants.{Text, Head, Copy}
+use Rattle.mr_steps.specs.Sinks.{Output}
+use Rattle.mr_steps.specs.TextFiles.{matrix_file, text_file}
+use Rattle.mr_steps.specs.Texts.{or_matrix_fault}
+use Rattle.mr_top.specs.CheckSteps.{check_answer}
+use Rattle.mr_top.specs.Commands.{answer, command_answer}
+use Rattle.mr_top.specs.EncodeSteps.{encode_answer, encoded_file}
+use Rattle.mr_top.specs.Eyes.{command_eyes, image_eyes, mend_eyes, plan_eyes}
+use Rattle.mr_top.specs.Plan.{plan_given}
+use Rattle.mr_top.specs.PlanSteps.{plan_answer}
+use Rattle.mr_top.specs.RebuildSteps.{copied_image, handed_file, head_file, mended_image, plan_file, image_read, plan_for, read_as, rebuild_answer, rebuild_by, rebuilt_by, replied_image}
+use Rattle.mr_steps.specs.Readings.{Reading, given, and_then, ◌>>=◌}
+use Rattle.mr_steps.specs.Requests.{or_usage, rebuild_words, request_of}
+use Rattle.mr_steps.specs.Steps.{FollowsWith}
+use Rattle.mr_steps.specs.declared.fault.Fault.{Fault}
+use Rattle.mr_steps.specs.declared.request.Request.{Request}
+use Rattle.mr_steps.specs.declared.request.Request.TheVariants.{Plan, Check, Make, Encode, Rebuild}
+use Rattle.mr_top.specs.Check.{cost_given}
+use Rattle.mr_steps.specs.Losses.{targets_given}
+use Rattle.mr_steps.proofs.Chains.{eyes-given}
 use Rattle.mr_image.specs.Images.{Layout}
 use Rattle.mr_model.specs.Code.{Code}
-use Rattle.mr_top.specs.EncodeReply.{layout_given}
-use Rattle.mr_plan.specs.Plans.{PlanParts}
-use Rattle.mr_top.specs.RebuildReply.{asks_given, handed_given, plan_used}
-use Rattle.mr_top.specs.declared.chosen.ChosenPlan.{ChosenPlan}
-use Rattle.mr_top.proofs.RebuildSteps.{output_next}
+use Rattle.mr_top.specs.Encode.{layout_given}
+use Rattle.mr_plan.specs.Plans.{PlanParts, survivors}
+use Rattle.mr_top.specs.Rebuild.{asks_given, handed_given}
+use Rattle.mr_words.specs.declared.rebuild_words.RebuildWords.{RebuildWords}
+use Rattle.mr_top.specs.declared.image_read.ImageRead.{ImageRead}
+use Rattle.mr_top.proofs.ImageSteps.{asks_next, handed_next, loss_next, matrix_next}
 use Rattle.mr_top.proofs.EncodeSteps.{code_next, head_next, image_next}
 use Rattle.mr_top.proofs.CheckSteps.{cost_next, lost_next, plan_next, valid_next}
 
@@ -33,11 +45,11 @@ eyes-text_file : (contents : List ℕ → List ℕ) (name : List ℕ) → (text_
 unfolding text_file
 eyes-text_file contents name = refl
 
-eyes-matrix_file : (contents : List ℕ → List ℕ) (name : List ℕ) → (matrix_file contents name).eyes ≡ record { name = name; duty = Text } ∷ []
+pub eyes-matrix_file : (contents : List ℕ → List ℕ) (name : List ℕ) → (matrix_file contents name).eyes ≡ record { name = name; duty = Text } ∷ []
 unfolding matrix_file
 eyes-matrix_file contents name = eyes-given (text_file contents name MatrixBytes) (λ bytes. or_matrix_fault (matrix_of bytes)) ∙ eyes-text_file contents name
 
-eyes-plan_answer : (contents : List ℕ → List ℕ) (matrix lost : List ℕ) (budget : ℕ) → (plan_answer contents matrix lost budget).eyes ≡ record { name = matrix; duty = Text } ∷ []
+pub eyes-plan_answer : (contents : List ℕ → List ℕ) (matrix lost : List ℕ) (budget : ℕ) → (plan_answer contents matrix lost budget).eyes ≡ record { name = matrix; duty = Text } ∷ []
 unfolding plan_answer
 eyes-plan_answer contents matrix lost budget = eyes-given (matrix_file contents matrix) (λ m. plan_given budget m lost) ∙ eyes-matrix_file contents matrix
 
@@ -70,7 +82,7 @@ eyes-given_more {X} {Y} reading next none = go reading.result
     go (Ok x) = ap (λ eyes. reading.eyes ++ eyes) (none x) ∙ append-nil reading.eyes
     go (Err fault) = refl
 
-eyes-text : (contents : List ℕ → List ℕ) (name : List ℕ) (what : What) → (text_file contents name what).eyes ≡ record { name = name; duty = Text } ∷ []
+pub eyes-text : (contents : List ℕ → List ℕ) (name : List ℕ) (what : What) → (text_file contents name what).eyes ≡ record { name = name; duty = Text } ∷ []
 unfolding text_file
 eyes-text contents name what = refl
 
@@ -85,7 +97,7 @@ front-check_answer contents matrix lost plan =
     (eyes-given_more (text_file contents plan PlanBytes) (cost_next m targets) (λ bytes. eyes-given (given (cost_given m targets bytes)) valid_next)
     ∙ eyes-text contents plan PlanBytes))))
 
-eyes-encoded_file : (contents : List ℕ → List ℕ) (payload : List ℕ) (m : Code) (l : Layout) → (encoded_file contents payload m l).eyes ≡ record { name = payload; duty = Copy } ∷ []
+pub eyes-encoded_file : (contents : List ℕ → List ℕ) (payload : List ℕ) (m : Code) (l : Layout) → (encoded_file contents payload m l).eyes ≡ record { name = payload; duty = Copy } ∷ []
 unfolding encoded_file
 eyes-encoded_file contents payload m l = refl
 
@@ -99,64 +111,85 @@ front-encode_answer contents matrix payload stripes bytes =
     front_same (head_next contents payload m l).eyes (record { name = payload; duty = Copy } ∷ [])
     (eyes-given (encoded_file contents payload m l) image_next ∙ eyes-encoded_file contents payload m l))))
 
-eyes-handed_file : (contents : List ℕ → List ℕ) (plan : Option (List ℕ)) (m : Code) (targets : ℕ) → (handed_file contents plan m targets).eyes ≡ plan_eyes plan
+pub eyes-handed_file : (contents : List ℕ → List ℕ) (plan : Option (List ℕ)) (m : Code) (targets : ℕ) → (handed_file contents plan m targets).eyes ≡ plan_eyes plan
 unfolding plan_file
 eyes-handed_file contents None m targets = refl
 eyes-handed_file contents (Some plan) m targets = eyes-given (text_file contents plan PlanBytes) (handed_given m targets) ∙ eyes-text contents plan PlanBytes
 
-eyes-head_file : (contents : List ℕ → List ℕ) (image : List ℕ) (m : Code) → (head_file contents image m).eyes ≡ record { name = image; duty = Head } ∷ []
+pub eyes-head_file : (contents : List ℕ → List ℕ) (image : List ℕ) (m : Code) → (head_file contents image m).eyes ≡ record { name = image; duty = Head } ∷ []
 unfolding head_file
 eyes-head_file contents image m = refl
 
-eyes-mended_image : (contents : List ℕ → List ℕ) (image : List ℕ) (m : Code) (targets : ℕ) (l : Layout) (plan : PlanParts) (asks : List Ask)
-    → (mended_image contents image m targets l plan asks).eyes ≡ record { name = image; duty = Mend } ∷ record { name = image; duty = Live } ∷ record { name = image; duty = Copy } ∷ []
+eyes-mended_image : (contents : List ℕ → List ℕ) (image : List ℕ) (set : ℕ) (l : Layout) (plan : PlanParts) (asks : List Ask)
+    → (mended_image contents image set l plan asks).eyes ≡ mend_eyes image
 unfolding mended_image replied_image copied_image
-eyes-mended_image contents image m targets l plan asks = refl
+eyes-mended_image contents image set l plan asks = refl
 
-eyes-rebuild_by : (contents : List ℕ → List ℕ) (image : List ℕ) (m : Code) (targets : ℕ) (l : Layout) (chosen : ChosenPlan) (asks : List Ask)
-    → (rebuild_by contents image m targets l chosen asks).eyes ≡ record { name = image; duty = Mend } ∷ record { name = image; duty = Live } ∷ record { name = image; duty = Copy } ∷ []
+pub eyes-rebuild_by : (contents : List ℕ → List ℕ) (words : RebuildWords) (read : ImageRead) (asks : List Ask)
+    → (rebuild_by contents words read asks).eyes ≡ mend_eyes words.image
 unfolding rebuild_by
-eyes-rebuild_by contents image m targets l chosen asks =
-    eyes-given (mended_image contents image m targets l chosen.plan asks) (output_next l chosen asks) ∙ eyes-mended_image contents image m targets l chosen.plan asks
+eyes-rebuild_by contents words read asks =
+    eyes-given (mended_image contents words.image (survivors read.matrix read.problem.targets) read.head (plan_for words read).plan asks)
+    (λ mended. Ok (rebuilt_by (plan_for words read) read.head asks mended))
+    ∙ eyes-mended_image contents words.image (survivors read.matrix read.problem.targets) read.head (plan_for words read).plan asks
 
-front-rebuild_layout : (contents : List ℕ → List ℕ) (left image : List ℕ) (m : Code) (targets : ℕ) (chosen : ChosenPlan) (l : Layout)
-    → IsFront (rebuild_layout contents left image m targets chosen l).eyes (record { name = image; duty = Mend } ∷ record { name = image; duty = Live } ∷ record { name = image; duty = Copy } ∷ [])
-unfolding rebuild_layout
-front-rebuild_layout contents left image m targets chosen l =
-    front_after (given (asks_given l left)) (rebuild_by contents image m targets l chosen) (record { name = image; duty = Mend } ∷ record { name = image; duty = Live } ∷ record { name = image; duty = Copy } ∷ [])
-    (λ asks. front_same _ _ (eyes-rebuild_by contents image m targets l chosen asks))
+-- A chain asks for a front of these eyes, and for all of them where it gives a value.
+record Fronts {X : Type 0} (reading : Reading X) (all : List Asked) : Type 0 where
+  front : IsFront reading.eyes all
+  whole : (x : X) → reading.result ≡ Ok x → reading.eyes ≡ all
 
-front-rebuild_handed : (contents : List ℕ → List ℕ) (left image : List ℕ) (budget : ℕ) (m : Code) (targets : ℕ) (handed : Option ChosenPlan)
-    → IsFront (rebuild_handed contents left image budget m targets handed).eyes (image_eyes image)
-unfolding rebuild_handed
-front-rebuild_handed contents left image budget m targets handed =
-    subst (λ eyes. IsFront (rebuild_handed contents left image budget m targets handed).eyes (eyes ++ record { name = image; duty = Mend } ∷ record { name = image; duty = Live } ∷ record { name = image; duty = Copy } ∷ []))
-    (eyes-head_file contents image m)
-    (front_after (head_file contents image m) (rebuild_layout contents left image m targets (plan_used m targets budget handed)) _
-    (λ l. front-rebuild_layout contents left image m targets (plan_used m targets budget handed) l))
+fronts-same : {X : Type 0} (reading : Reading X) (all : List Asked) → reading.eyes ≡ all → Fronts reading all
+fronts-same reading all e = record { front = front_same reading.eyes all e; whole = λ _ _. e }
 
-front-rebuild_loss : (contents : List ℕ → List ℕ) (left image : List ℕ) (plan : Option (List ℕ)) (budget : ℕ) (m : Code) (targets : ℕ)
-    → IsFront (rebuild_loss contents left image plan budget m targets).eyes (plan_eyes plan ++ image_eyes image)
-unfolding rebuild_loss
-front-rebuild_loss contents left image plan budget m targets =
-    subst (λ eyes. IsFront (rebuild_loss contents left image plan budget m targets).eyes (eyes ++ image_eyes image)) (eyes-handed_file contents plan m targets)
-    (front_after (handed_file contents plan m targets) (rebuild_handed contents left image budget m targets) (image_eyes image)
-    (λ handed. front-rebuild_handed contents left image budget m targets handed))
+fronts-then : {X Y : Type 0} (reading : Reading X) (next : X → Reading Y) (first more : List Asked) → Fronts reading first
+    → ((x : X) → Fronts (next x) more) → Fronts (reading >>= next) (first ++ more)
+fronts-then {X} {Y} reading next first more f k = go reading.result refl
+  where
+    go : (r : Result X Fault) → reading.result ≡ r → Fronts (and_then reading.eyes reading.taken r next) (first ++ more)
+    go (Ok x) e = record {
+      front = record {
+        rest = (k x).front.rest;
+        joined = append_assoc reading.eyes (next x).eyes (k x).front.rest ∙ ap (λ eyes. reading.eyes ++ eyes) (k x).front.joined
+            ∙ ap (λ eyes. eyes ++ more) (f.whole x e);
+      };
+      whole = λ y is. ap (λ eyes. reading.eyes ++ eyes) ((k x).whole y is) ∙ ap (λ eyes. eyes ++ more) (f.whole x e);
+    }
+    go (Err fault) e = record {
+      front = record {
+        rest = f.front.rest ++ more;
+        joined = sym (append_assoc reading.eyes f.front.rest more) ∙ ap (λ eyes. eyes ++ more) f.front.joined;
+      };
+      whole = λ y is. let clash : ◌≡◌ {A = Result Y Fault} (Err fault) (Ok y) = is in cc;
+    }
 
-front-rebuild_code : (contents : List ℕ → List ℕ) (left image lost : List ℕ) (plan : Option (List ℕ)) (budget : ℕ) (m : Code)
-    → IsFront (rebuild_code contents left image lost plan budget m).eyes (plan_eyes plan ++ image_eyes image)
-unfolding rebuild_code
-front-rebuild_code contents left image lost plan budget m =
-    front_after (given (targets_given m lost)) (rebuild_loss contents left image plan budget m) (plan_eyes plan ++ image_eyes image)
-    (λ targets. front-rebuild_loss contents left image plan budget m targets)
+-- the eye of the head
+abbrev head_eyes : List ℕ → List Asked
+head_eyes image = record { name = image; duty = Head } ∷ []
 
-front-rebuild_answer : (contents : List ℕ → List ℕ) (left matrix image lost : List ℕ) (plan : Option (List ℕ)) (budget : ℕ)
-    → IsFront (rebuild_answer contents left matrix image lost plan budget).eyes (record { name = matrix; duty = Text } ∷ plan_eyes plan ++ image_eyes image)
+-- the eyes up to the script
+fronts-image_read : (contents : List ℕ → List ℕ) (words : RebuildWords)
+    → Fronts (image_read contents words) (record { name = words.matrix; duty = Text } ∷ (plan_eyes words.plan ++ head_eyes words.image))
+unfolding image_read
+fronts-image_read contents words =
+    fronts-then (matrix_file contents words.matrix) (matrix_next contents words) (record { name = words.matrix; duty = Text } ∷ []) (plan_eyes words.plan ++ head_eyes words.image)
+    (fronts-same _ _ (eyes-matrix_file contents words.matrix)) (λ m.
+    fronts-then (given (targets_given m words.lost)) (loss_next contents words m) [] (plan_eyes words.plan ++ head_eyes words.image) (fronts-same _ _ refl) (λ targets.
+    fronts-then (handed_file contents words.plan m targets) (handed_next contents words m targets) (plan_eyes words.plan) (head_eyes words.image)
+    (fronts-same _ _ (eyes-handed_file contents words.plan m targets)) (λ handed.
+    fronts-same _ _ (eyes-given (head_file contents words.image m) (λ l. Ok (read_as m targets handed l)) ∙ eyes-head_file contents words.image m))))
+
+-- all eyes of a rebuild
+front-rebuild_answer : (contents : List ℕ → List ℕ) (left : List ℕ) (words : RebuildWords)
+    → IsFront (rebuild_answer contents left words).eyes (record { name = words.matrix; duty = Text } ∷ plan_eyes words.plan ++ image_eyes words.image)
 unfolding rebuild_answer
-front-rebuild_answer contents left matrix image lost plan budget =
-    subst (λ eyes. IsFront (rebuild_answer contents left matrix image lost plan budget).eyes (eyes ++ (plan_eyes plan ++ image_eyes image))) (eyes-matrix_file contents matrix)
-    (front_after (matrix_file contents matrix) (rebuild_code contents left image lost plan budget) (plan_eyes plan ++ image_eyes image)
-    (λ m. front-rebuild_code contents left image lost plan budget m))
+front-rebuild_answer contents left words =
+    subst (λ eyes. IsFront (rebuild_answer contents left words).eyes (record { name = words.matrix; duty = Text } ∷ eyes))
+    (append_assoc (plan_eyes words.plan) (head_eyes words.image) (mend_eyes words.image))
+    (fronts-then (image_read contents words) (asks_next contents left words)
+    (record { name = words.matrix; duty = Text } ∷ (plan_eyes words.plan ++ head_eyes words.image)) (mend_eyes words.image)
+    (fronts-image_read contents words) (λ read.
+    fronts-then (given (asks_given read.head left)) (rebuild_by contents words read) [] (mend_eyes words.image) (fronts-same _ _ refl) (λ asks.
+    fronts-same _ _ (eyes-rebuild_by contents words read asks)))).front
 
 -- the eyes of an answer are a front of its command's
 front-answer : (words : List (List ℕ)) (contents : List ℕ → List ℕ) (left : List ℕ) → IsFront (answer words contents left).eyes (command_eyes (request_of words))
@@ -167,7 +200,8 @@ front-answer words contents left = go (request_of words)
     go None = front_same [] [] refl
     go (Some (Make code p)) = front_same [] [] refl
     go (Some (Encode matrix payload stripes bytes)) = front-encode_answer contents matrix payload stripes bytes
-    go (Some (Rebuild matrix image lost workers budget plan)) = front-rebuild_answer contents left matrix image lost plan budget
+    go (Some (Rebuild matrix image lost workers budget plan)) =
+        front-rebuild_answer contents left (rebuild_words matrix image lost workers budget plan)
     go (Some (Check matrix lost plan)) = front-check_answer contents matrix lost plan
     go (Some (Plan matrix lost workers budget)) = front_same _ _ (eyes-plan_answer contents matrix lost budget)
 
@@ -175,14 +209,7 @@ front-answer words contents left = go (request_of words)
 asks_front : (told : Told) (new : Option Told) (front all : List Asked) → IsFront front all → AsksFront told new front → AsksFront told new all
 asks_front told new front all f h = subst (λ eyes. AsksFront told new eyes) f.joined (asks_more told new front f.rest h)
 
--- what was asked for besides is a front of the answer's eyes, for some bytes left in the script
-pub asks_of_answer : {X : Type 0} (view : X → Output) (old new : Option Told) (t0 t1 : Totals) (script : Option (List ℕ)) (result : Result X Fault) (words : List (List ℕ))
-    → FollowsWith view old new t0 t1 script result (answer words)
-    → IfSome old (λ told. (left : List ℕ) × IsLeft script left × AsksFront told new (answer words told.contents left).eyes)
-asks_of_answer view None new t0 t1 script result words h = tt
-asks_of_answer view (Some told) new t0 t1 script result words h = (h.left, h.is, (h.reads told refl).front)
-
--- and of the command's eyes
+-- what was asked for besides is a front of the command's eyes
 pub asks_of_command : {X : Type 0} (view : X → Output) (old new : Option Told) (t0 t1 : Totals) (script : Option (List ℕ)) (result : Result X Fault) (words : List (List ℕ))
     → FollowsWith view old new t0 t1 script result (answer words) → IfSome old (λ told. AsksFront told new (command_eyes (request_of words)))
 asks_of_command view None new t0 t1 script result words h = tt

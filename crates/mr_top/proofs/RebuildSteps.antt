@@ -19,19 +19,15 @@ use Rattle.mr_mend.specs.declared.rebuilding.Rebuilt.{Rebuilt}
 use Rattle.mr_mend.proofs.CopySets.{copied-survivors}
 use Rattle.mr_mend.proofs.Mendable.{mendable-from_valid}
 use Rattle.mr_plan.specs.Plans.{PlanParts, survivors}
-use Rattle.mr_top.specs.Answer.{Output}
-use Rattle.mr_top.specs.EncodeReply.{or_head_fault}
-use Rattle.mr_top.specs.Readings.{Reading}
-use Rattle.mr_top.specs.RebuildReply.{Mended, head_given, mended_of, rebuild_report}
+use Rattle.mr_top.specs.Encode.{or_head_fault}
+use Rattle.mr_steps.specs.Readings.{Reading}
+use Rattle.mr_top.specs.Rebuild.{head_given}
+use Rattle.mr_top.specs.RebuildSteps.{Mended, mended_of}
 use Rattle.mr_top.specs.Replies.{mended_view}
-use Rattle.mr_top.specs.Steps.{Reads}
-use Rattle.mr_top.specs.declared.chosen.ChosenPlan.{ChosenPlan}
-use Rattle.mr_top.specs.declared.fault.Fault.{Fault}
-use Rattle.mr_top.specs.declared.fault.Fault.TheVariants.{BadImage}
-use Rattle.mr_top.proofs.LostSymbols.{survivors-below}
-
-abbrev pub output_next : Layout → ChosenPlan → List Ask → Mended → Result Output Fault
-output_next l chosen asks mended = Ok (record { out = mended.image; report = rebuild_report chosen l.stripes l.symbol_bytes asks mended.replies })
+use Rattle.mr_steps.specs.Steps.{Reads}
+use Rattle.mr_steps.specs.declared.fault.Fault.{Fault}
+use Rattle.mr_steps.specs.declared.fault.Fault.TheVariants.{BadImage}
+use Rattle.mr_steps.proofs.LostSymbols.{survivors-below}
 
 -- ---- the head
 

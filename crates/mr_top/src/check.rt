@@ -1,59 +1,67 @@
 //! The command `check`.
 
-ghost use Rattle.mr_top.specs.Answer.{check_answer};
-ghost use Rattle.mr_top.specs.CheckReply.{cost_given, sound_given};
+ghost use Rattle.mr_top.specs.CheckSteps.{check_answer};
+ghost use Rattle.mr_top.specs.Check.{cost_given, sound_given};
+ghost use Rattle.mr_steps.specs.Losses.{loss_of};
 ghost use Rattle.mr_top.specs.Replies.{HasRoom, output_of};
-ghost use Rattle.mr_top.specs.Steps.{Gives, Grows, HasReadCause, IsPastWords, Reads};
+ghost use Rattle.mr_steps.specs.Steps.{Gives, Grows, HasReadCause, IsPastWords, Reads};
 ghost use Rattle.mr_model.specs.Plans.{IsValidPlan};
 ghost use Rattle.mr_plan.specs.Plans.{survivors};
-ghost use Rattle.std.specs.Prelude.{◌^◌, ◌<◌, length, IfOk};
+ghost use Rattle.std.specs.Prelude.{◌≡◌, ◌^◌, ◌<◌, length, IfOk};
 
-use crate::fault::Fault;
-use crate::loss::loss_in;
+use crate::lent::Lent;
 use crate::reply::Reply;
-use crate::text::{file_text, matrix_text};
 use mr_bits::{Mask, Matrix, What};
-use mr_io::{Files, Text};
+use mr_eq::Problem;
+use mr_io::{Files, Source};
 use mr_plan::Plan;
-use std::alloc::Global;
+use mr_steps::{Fault, file_text, loss_in, matrix_text};
+use mr_words::CheckWords;
 
 /// Whether the plan file's plan is valid for the matrix file and the lost devices.
-pub(crate) fn check<F: Files>(
-    alloc: Global,
-    files: &mut F,
-    matrix: &Text,
-    lost: &Text,
-    plan: &Text,
+pub(crate) fn check<F: Files, S: Source>(
+    lent: &mut Lent<'_, '_, '_, F, S>,
+    words: &CheckWords,
 ) -> Result<Reply, Fault>
-    ensures reads { Reads output_of (F.told files.old) (F.told files.new) result (λ contents. check_answer contents matrix.now lost.now plan.now) }
-    ensures totals { Grows (F.told files.old) (F.totals files.old) (F.totals files.new) result (λ contents. check_answer contents matrix.now lost.now plan.now) }
+    ensures same_files { lent.new.files.ghost_name ≡ lent.old.files.ghost_name }
+    ensures same_script { lent.new.script.ghost_name ≡ lent.old.script.ghost_name }
+    ensures kept { lent.new.script.now ≡ lent.old.script.now }
+    ensures reads { Reads output_of (F.told lent.old.files.now) (F.told lent.new.files.now) result
+        (λ contents. check_answer contents words.now.matrix words.now.lost words.now.plan) }
+    ensures totals { Grows (F.told lent.old.files.now) (F.totals lent.old.files.now)
+        (F.totals lent.new.files.now) result
+        (λ contents. check_answer contents words.now.matrix words.now.lost words.now.plan) }
     ensures room { IfOk result HasRoom }
-    ensures cause { HasReadCause (F.faults files.old) (F.faults files.new) result }
+    ensures cause { HasReadCause (F.faults lent.old.files.now)
+        (F.faults lent.new.files.now) result }
     ensures past_words { IsPastWords result }
 {
-    let matrix = matrix_text(alloc, files, matrix)?;
-    let problem = loss_in(&matrix, lost)?;
-    let bytes = file_text(alloc, files, plan, What::PlanBytes)?;
-    let cost = cost_of(&matrix, problem.targets(), &bytes)?;
+    let matrix = matrix_text(lent.alloc, lent.files, &words.matrix)?;
+    let problem = loss_in(&matrix, &words.lost)?;
+    let bytes = file_text(lent.alloc, lent.files, &words.plan, What::PlanBytes)?;
+    let cost = cost_of(&matrix, &problem, &bytes)?;
     Ok(Reply::Check { cost })
 }
 
-/// The number of symbols that the plan of a text reads, where it is valid for the lost symbols.
-fn cost_of(matrix: &Matrix, targets: Mask, bytes: &[u8]) -> Result<u32, Fault>
-    requires { targets < 2 ^ length matrix.now.rows }
-    ensures given { Gives (λ cost. cost) result (cost_given matrix.now targets bytes.now) }
+/// What the set of the plan of a text costs, where the plan is valid for the lost symbols.
+fn cost_of(matrix: &Matrix, problem: &Problem, bytes: &[u8]) -> Result<u32, Fault>
+    requires loss { problem.now ≡ loss_of matrix.now problem.now.targets }
+    ensures given { Gives (λ cost. cost) result
+        (cost_given matrix.now problem.now.targets bytes.now) }
     ensures cause { HasReadCause 0 0 result }
     ensures past_words { IsPastWords result }
 {
-    let plan = sound_plan(matrix, targets, bytes)?;
-    Ok(plan.set().count())
+    let plan = sound_plan(matrix, problem.targets(), bytes)?;
+    Ok(problem.cost(plan.set()))
 }
 
 /// The plan of a text, where it is valid for the lost symbols.
 pub(crate) fn sound_plan(matrix: &Matrix, targets: Mask, bytes: &[u8]) -> Result<Plan, Fault>
     requires { targets < 2 ^ length matrix.now.rows }
     ensures given { Gives (λ plan. plan) result (sound_given matrix.now targets bytes.now) }
-    ensures valid { IfOk result (λ plan. IsValidPlan matrix.now (survivors matrix.now targets) targets plan.set plan.recipes) }
+    ensures valid { IfOk result
+        (λ plan. IsValidPlan matrix.now
+        (survivors matrix.now targets) targets plan.set plan.recipes) }
     ensures cause { HasReadCause 0 0 result }
     ensures past_words { IsPastWords result }
 {

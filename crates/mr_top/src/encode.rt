@@ -4,39 +4,44 @@ ghost use Rattle.std.specs.Prelude.{◌≡◌, IfOk, OnOk, length};
 ghost use Rattle.std.specs.Option.{ForSome};
 ghost use Rattle.mr_io.specs.Sights.{sight_with};
 ghost use Rattle.mr_encode.specs.Data.{data_bytes};
-ghost use Rattle.mr_top.specs.Answer.{encode_answer, encoded_file};
-ghost use Rattle.mr_top.specs.EncodeReply.{encoded_given, layout_given};
+ghost use Rattle.mr_top.specs.EncodeSteps.{encode_answer, encoded_file};
+ghost use Rattle.mr_top.specs.Encode.{encoded_given, layout_given};
 ghost use Rattle.mr_top.specs.Replies.{HasRoom, output_of};
-ghost use Rattle.mr_top.specs.Steps.{Gives, Grows, HasReadCause, IsPastWords, Reads};
+ghost use Rattle.mr_steps.specs.Steps.{Gives, Grows, HasReadCause, IsPastWords, Reads};
 
-use crate::fault::Fault;
+use crate::lent::Lent;
 use crate::reply::Reply;
-use crate::text::matrix_text;
 use mr_bits::Matrix;
 use mr_form::{ImageHead, ImageKind};
-use mr_io::{Duty, Eye, Files, Text};
+use mr_io::{Duty, Eye, Files, Source, Text};
 use mr_kern::XorKernel;
+use mr_steps::{Fault, matrix_text};
+use mr_words::EncodeWords;
 use std::alloc::Global;
 
 /// The image of the codewords of a data file, for a matrix file.
-pub(crate) fn encode<F: Files>(
-    alloc: Global,
-    files: &mut F,
-    matrix: &Text,
-    payload: &Text,
-    stripes: u32,
-    bytes: u32,
-    kernel: &XorKernel,
+pub(crate) fn encode<F: Files, S: Source>(
+    lent: &mut Lent<'_, '_, '_, F, S>,
+    words: &EncodeWords,
 ) -> Result<Reply, Fault>
-    ensures reads { Reads output_of (F.told files.old) (F.told files.new) result (λ contents. encode_answer contents matrix.now payload.now stripes bytes) }
-    ensures totals { Grows (F.told files.old) (F.totals files.old) (F.totals files.new) result (λ contents. encode_answer contents matrix.now payload.now stripes bytes) }
+    ensures same_files { lent.new.files.ghost_name ≡ lent.old.files.ghost_name }
+    ensures same_script { lent.new.script.ghost_name ≡ lent.old.script.ghost_name }
+    ensures kept { lent.new.script.now ≡ lent.old.script.now }
+    ensures reads { Reads output_of (F.told lent.old.files.now) (F.told lent.new.files.now) result
+        (λ contents. encode_answer contents words.now.matrix words.now.payload
+        words.now.stripes words.now.bytes) }
+    ensures totals { Grows (F.told lent.old.files.now) (F.totals lent.old.files.now)
+        (F.totals lent.new.files.now) result
+        (λ contents. encode_answer contents words.now.matrix words.now.payload
+        words.now.stripes words.now.bytes) }
     ensures room { IfOk result HasRoom }
-    ensures cause { HasReadCause (F.faults files.old) (F.faults files.new) result }
+    ensures cause { HasReadCause (F.faults lent.old.files.now)
+        (F.faults lent.new.files.now) result }
     ensures past_words { IsPastWords result }
 {
-    let matrix = matrix_text(alloc, files, matrix)?;
-    let head = head_for(&matrix, bytes, stripes)?;
-    let image = encoded_image(alloc, files, payload, &matrix, &head, kernel)?;
+    let matrix = matrix_text(lent.alloc, lent.files, &words.matrix)?;
+    let head = head_for(&matrix, words.bytes, words.stripes)?;
+    let image = encoded_image(lent, &words.payload, &matrix, &head)?;
     Ok(Reply::Encode { image })
 }
 
@@ -44,7 +49,8 @@ pub(crate) fn encode<F: Files>(
 fn head_for(matrix: &Matrix, bytes: u32, stripes: u32) -> Result<ImageHead, Fault>
     ensures given { Gives (λ head. head) result (layout_given matrix.now bytes stripes) }
     ensures devices { IfOk result (λ head. head.devices ≡ matrix.now.devices) }
-    ensures symbols { IfOk result (λ head. head.symbols_per_device ≡ matrix.now.symbols_per_device) }
+    ensures symbols { IfOk result
+        (λ head. head.symbols_per_device ≡ matrix.now.symbols_per_device) }
     ensures cause { HasReadCause 0 0 result }
     ensures past_words { IsPastWords result }
 {
@@ -53,24 +59,30 @@ fn head_for(matrix: &Matrix, bytes: u32, stripes: u32) -> Result<ImageHead, Faul
 }
 
 /// The image of the codewords of a data file. The eye is given back on each way out.
-fn encoded_image<F: Files>(
-    alloc: Global,
-    files: &mut F,
+fn encoded_image<F: Files, S: Source>(
+    lent: &mut Lent<'_, '_, '_, F, S>,
     payload: &Text,
     matrix: &Matrix,
     head: &ImageHead,
-    kernel: &XorKernel,
 ) -> Result<Vec<u8>, Fault>
     requires devices { head.now.devices ≡ matrix.now.devices }
     requires symbols { head.now.symbols_per_device ≡ matrix.now.symbols_per_device }
-    ensures reads { Reads (λ image. image.items) (F.told files.old) (F.told files.new) result (λ contents. encoded_file contents payload.now matrix.now head.now) }
-    ensures totals { Grows (F.told files.old) (F.totals files.old) (F.totals files.new) result (λ contents. encoded_file contents payload.now matrix.now head.now) }
-    ensures cause { HasReadCause (F.faults files.old) (F.faults files.new) result }
+    ensures same_files { lent.new.files.ghost_name ≡ lent.old.files.ghost_name }
+    ensures same_script { lent.new.script.ghost_name ≡ lent.old.script.ghost_name }
+    ensures kept { lent.new.script.now ≡ lent.old.script.now }
+    ensures reads { Reads (λ image. image.items) (F.told lent.old.files.now)
+        (F.told lent.new.files.now) result
+        (λ contents. encoded_file contents payload.now matrix.now head.now) }
+    ensures totals { Grows (F.told lent.old.files.now) (F.totals lent.old.files.now)
+        (F.totals lent.new.files.now) result
+        (λ contents. encoded_file contents payload.now matrix.now head.now) }
+    ensures cause { HasReadCause (F.faults lent.old.files.now)
+        (F.faults lent.new.files.now) result }
     ensures past_words { IsPastWords result }
 {
-    let mut eye = files.eye(payload.as_str(), Duty::Copy)?;
-    let image = image_behind(alloc, &mut eye, matrix, head, kernel);
-    files.retire(eye);
+    let mut eye = lent.files.eye(payload.as_str(), Duty::Copy)?;
+    let image = image_behind(lent.alloc, &mut eye, matrix, head, lent.kernel);
+    lent.files.retire(eye);
     image
 }
 
@@ -84,8 +96,11 @@ fn image_behind<E: Eye>(
 ) -> Result<Vec<u8>, Fault>
     requires devices { head.now.devices ≡ matrix.now.devices }
     requires symbols { head.now.symbols_per_device ≡ matrix.now.symbols_per_device }
-    ensures given { ForSome (E.sight eye.old).bytes (λ bytes. Gives (λ v. v.items) result (encoded_given matrix.now head.now bytes)) }
-    ensures taken { OnOk result (ForSome (E.sight eye.old).bytes (λ bytes. E.sight eye.new ≡ sight_with (E.sight eye.old) (length bytes))) }
+    ensures given { ForSome (E.sight eye.old).bytes
+        (λ bytes. Gives (λ v. v.items) result (encoded_given matrix.now head.now bytes)) }
+    ensures taken { OnOk result
+        (ForSome (E.sight eye.old).bytes
+        (λ bytes. E.sight eye.new ≡ sight_with (E.sight eye.old) (length bytes))) }
     ensures cause { HasReadCause (E.faults eye.old) (E.faults eye.new) result }
     ensures past_words { IsPastWords result }
 {

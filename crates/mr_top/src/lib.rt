@@ -3,25 +3,19 @@
 
 mod asking;
 mod check;
-mod choice_line;
 mod chosen;
 mod encode;
-mod fault;
-mod loss;
+mod handed;
+mod image_read;
+mod lent;
 mod make;
 mod plan;
 mod rebuild;
 mod rebuilding;
 mod reply;
-mod request;
-mod text;
 mod top;
-mod words;
 
-pub use choice_line::ChoiceLine;
 pub use chosen::ChosenPlan;
-pub use fault::Fault;
+pub use mr_steps::{ChoiceLine, Fault, Request, read_words};
 pub use reply::Reply;
-pub use request::Request;
 pub use top::run;
-pub use words::read_words;

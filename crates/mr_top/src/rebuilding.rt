@@ -7,24 +7,19 @@ ghost use Rattle.mr_image.specs.Heads.{file_bytes};
 ghost use Rattle.mr_io.specs.Sights.{sight_with};
 ghost use Rattle.mr_mend.specs.Mending.{HasImage, IsMendable, IsRoomFor, IsSameFile, copied_set};
 ghost use Rattle.mr_plan.specs.Plans.{survivors};
-ghost use Rattle.mr_top.specs.Answer.{copied_image, head_file, mended_image, rebuild_by, replied_image};
-ghost use Rattle.mr_top.specs.RebuildReply.{head_given, mending_reads};
+ghost use Rattle.mr_top.specs.RebuildSteps.{copied_image, head_file, mended_image, rebuild_by, replied_image, mending_reads};
+ghost use Rattle.mr_top.specs.Rebuild.{head_given};
 ghost use Rattle.mr_mend.specs.Scripts.{IsInRange};
 ghost use Rattle.mr_mend.specs.Serving.{live_reads};
 ghost use Rattle.mr_io.specs.Counts.{Rose};
 ghost use Rattle.mr_top.specs.Replies.{HasRoom, HasRoomFor, mended_view, output_of};
-ghost use Rattle.mr_top.specs.Steps.{Gives, Grows, HasReadCause, HasReadCauses, IsPastWords, Reads};
+ghost use Rattle.mr_steps.specs.Steps.{Gives, Grows, HasReadCause, HasReadCauses, IsPastWords, Reads};
 
-use crate::chosen::ChosenPlan;
-use crate::fault::Fault;
-use crate::reply::Reply;
-use mr_bits::{Mask, Matrix};
+use mr_bits::Matrix;
 use mr_form::{ImageHead, ImageKind};
 use mr_io::{Duty, Eye, Files, Text};
-use mr_kern::XorKernel;
-use mr_mend::{Ask, Rebuilt, Room};
-use mr_plan::Plan;
-use std::alloc::Global;
+use mr_mend::{Rebuild, Rebuilt, Room};
+use mr_steps::Fault;
 
 /// The bytes of a head.
 const HEAD: usize = 32;
@@ -35,11 +30,16 @@ pub(crate) fn image_head<F: Files>(
     image: &Text,
     matrix: &Matrix,
 ) -> Result<ImageHead, Fault>
-    ensures reads { Reads (λ head. head) (F.told files.old) (F.told files.new) result (λ contents. head_file contents image.now matrix.now) }
-    ensures totals { Grows (F.told files.old) (F.totals files.old) (F.totals files.new) result (λ contents. head_file contents image.now matrix.now) }
-    ensures fits { IfOk result (λ head. ForSome (F.told files.new) (λ told. length (told.contents image.now) ≡ file_bytes head)) }
+    ensures reads { Reads (λ head. head) (F.told files.old) (F.told files.new) result
+        (λ contents. head_file contents image.now matrix.now) }
+    ensures totals { Grows (F.told files.old) (F.totals files.old) (F.totals files.new) result
+        (λ contents. head_file contents image.now matrix.now) }
+    ensures fits { IfOk result
+        (λ head. ForSome (F.told files.new)
+        (λ told. length (told.contents image.now) ≡ file_bytes head)) }
     ensures devices { IfOk result (λ head. head.devices ≡ matrix.now.devices) }
-    ensures symbols { IfOk result (λ head. head.symbols_per_device ≡ matrix.now.symbols_per_device) }
+    ensures symbols { IfOk result
+        (λ head. head.symbols_per_device ≡ matrix.now.symbols_per_device) }
     ensures cause { HasReadCause (F.faults files.old) (F.faults files.new) result }
     ensures past_words { IsPastWords result }
 {
@@ -51,11 +51,15 @@ pub(crate) fn image_head<F: Files>(
 
 /// The head of the image file behind an eye.
 fn head_behind<E: Eye>(eye: &mut E, matrix: &Matrix) -> Result<ImageHead, Fault>
-    ensures given { ForSome (E.sight eye.old).bytes (λ bytes. Gives (λ head. head) result (head_given matrix.now bytes)) }
-    ensures taken { OnOk result (ForSome (E.sight eye.old).bytes (λ _. E.sight eye.new ≡ sight_with (E.sight eye.old) 32)) }
-    ensures fits { IfOk result (λ head. ForSome (E.sight eye.old).bytes (λ bytes. length bytes ≡ file_bytes head)) }
+    ensures given { ForSome (E.sight eye.old).bytes
+        (λ bytes. Gives (λ head. head) result (head_given matrix.now bytes)) }
+    ensures taken { OnOk result
+        (ForSome (E.sight eye.old).bytes (λ _. E.sight eye.new ≡ sight_with (E.sight eye.old) 32)) }
+    ensures fits { IfOk result
+        (λ head. ForSome (E.sight eye.old).bytes (λ bytes. length bytes ≡ file_bytes head)) }
     ensures devices { IfOk result (λ head. head.devices ≡ matrix.now.devices) }
-    ensures symbols { IfOk result (λ head. head.symbols_per_device ≡ matrix.now.symbols_per_device) }
+    ensures symbols { IfOk result
+        (λ head. head.symbols_per_device ≡ matrix.now.symbols_per_device) }
     ensures cause { HasReadCause (E.faults eye.old) (E.faults eye.new) result }
     ensures past_words { IsPastWords result }
 {
@@ -71,88 +75,43 @@ fn head_behind<E: Eye>(eye: &mut E, matrix: &Matrix) -> Result<ImageHead, Fault>
     Ok(head)
 }
 
-/// An image file mended by a plan that is valid for the lost symbols, with the replies to the asks. All memory is taken first.
-pub(crate) fn rebuild_by<F: Files>(
-    alloc: Global,
-    files: &mut F,
-    matrix: &Matrix,
-    targets: Mask,
-    image: &Text,
-    head: &ImageHead,
-    chosen: ChosenPlan,
-    asks: Vec<Ask>,
-    kernel: &XorKernel,
-) -> Result<Reply, Fault>
-    requires targets { targets < 2 ^ length matrix.now.rows }
-    requires valid { IsValidPlan matrix.now (survivors matrix.now targets) targets chosen.plan.set chosen.plan.recipes }
-    requires devices { head.now.devices ≡ matrix.now.devices }
-    requires symbols { head.now.symbols_per_device ≡ matrix.now.symbols_per_device }
-    requires fits { ForSome (F.told files.old) (λ told. length (told.contents image.now) ≡ file_bytes head.now) }
-    requires asks { All (IsInRange head.now) asks.items }
-    ensures reads { Reads output_of (F.told files.old) (F.told files.new) result (λ contents. rebuild_by contents image.now matrix.now targets head.now chosen asks.items) }
-    ensures totals { Grows (F.told files.old) (F.totals files.old) (F.totals files.new) result (λ contents. rebuild_by contents image.now matrix.now targets head.now chosen asks.items) }
-    ensures room { IfOk result HasRoom }
-    ensures cause { HasReadCause (F.faults files.old) (F.faults files.new) result }
-    ensures past_words { IsPastWords result }
-{
-    // The matrix is within its limits: what the plan names is in range.
-    let _within_limits = matrix.shape();
-    let room = Room::new(alloc, head, &chosen.plan, &asks)?;
-    let rebuilt = mend_image(
-        files,
-        matrix,
-        targets,
-        image,
-        head,
-        &chosen.plan,
-        &asks,
-        kernel,
-        room,
-    )?;
-    Ok(Reply::Rebuild {
-        rebuilt,
-        chosen,
-        head: *head,
-        asks,
-    })
+/// An image file that is to be mended.
+#[derive(Drop)]
+pub(crate) struct Mending<'i, 'r> {
+    /// The name of the image file.
+    pub image: &'i Text,
+    /// What its rebuild goes by.
+    pub rebuild: Rebuild<'r>,
 }
 
 /// The mended image, and the replies. The eyes are given back on each way out.
-fn mend_image<F: Files>(
+pub(crate) fn mend_image<F: Files>(
     files: &mut F,
-    matrix: &Matrix,
-    targets: Mask,
-    image: &Text,
-    head: &ImageHead,
-    plan: &Plan,
-    asks: &[Ask],
-    kernel: &XorKernel,
+    mending: &Mending,
     room: Room,
 ) -> Result<Rebuilt, Fault>
-    requires plan { IsMendable head.now plan.now }
-    requires copied { copied_set head.now plan.now.recipes ≡ survivors matrix.now targets }
-    requires asks { All (IsInRange head.now) asks.now }
-    requires fits { ForSome (F.told files.old) (λ told. length (told.contents image.now) ≡ file_bytes head.now) }
-    requires room { IsRoomFor head.now plan.now asks.now room }
-    ensures reads { Reads mended_view (F.told files.old) (F.told files.new) result (λ contents. mended_image contents image.now matrix.now targets head.now plan.now asks.now) }
-    ensures totals { Grows (F.told files.old) (F.totals files.old) (F.totals files.new) result (λ contents. mended_image contents image.now matrix.now targets head.now plan.now asks.now) }
-    ensures room { IfOk result (HasRoomFor head.now asks.now) }
+    requires plan { IsMendable mending.now.rebuild.head.now mending.now.rebuild.plan.now }
+    requires asks { All (IsInRange mending.now.rebuild.head.now) mending.now.rebuild.asks.now }
+    requires fits { ForSome (F.told files.old)
+        (λ told. length (told.contents mending.now.image.now)
+        ≡ file_bytes mending.now.rebuild.head.now) }
+    requires room { IsRoomFor mending.now.rebuild.head.now mending.now.rebuild.plan.now
+        mending.now.rebuild.asks.now room }
+    ensures reads { Reads mended_view (F.told files.old) (F.told files.new) result
+        (λ contents. mended_image contents mending.now.image.now
+        (copied_set mending.now.rebuild.head.now mending.now.rebuild.plan.now.recipes)
+        mending.now.rebuild.head.now mending.now.rebuild.plan.now mending.now.rebuild.asks.now) }
+    ensures totals { Grows (F.told files.old) (F.totals files.old) (F.totals files.new) result
+        (λ contents. mended_image contents mending.now.image.now
+        (copied_set mending.now.rebuild.head.now mending.now.rebuild.plan.now.recipes)
+        mending.now.rebuild.head.now mending.now.rebuild.plan.now mending.now.rebuild.asks.now) }
+    ensures room { IfOk result
+        (HasRoomFor mending.now.rebuild.head.now mending.now.rebuild.asks.now) }
     ensures cause { HasReadCause (F.faults files.old) (F.faults files.new) result }
     ensures past_words { IsPastWords result }
 {
-    let mut mender = files.eye(image.as_str(), Duty::Mend)?;
-    let rebuilt = reply_beside(
-        files,
-        &mut mender,
-        matrix,
-        targets,
-        image,
-        head,
-        plan,
-        asks,
-        kernel,
-        room,
-    );
+    let mut mender = files.eye(mending.image.as_str(), Duty::Mend)?;
+    let rebuilt = reply_beside(files, &mut mender, mending, room);
     files.retire(mender);
     rebuilt
 }
@@ -161,44 +120,40 @@ fn mend_image<F: Files>(
 fn reply_beside<F: Files>(
     files: &mut F,
     mender: &mut F::E,
-    matrix: &Matrix,
-    targets: Mask,
-    image: &Text,
-    head: &ImageHead,
-    plan: &Plan,
-    asks: &[Ask],
-    kernel: &XorKernel,
+    mending: &Mending,
     room: Room,
 ) -> Result<Rebuilt, Fault>
-    requires plan { IsMendable head.now plan.now }
-    requires copied { copied_set head.now plan.now.recipes ≡ survivors matrix.now targets }
-    requires asks { All (IsInRange head.now) asks.now }
-    requires fits { ForSome (F.told files.old) (λ told. length (told.contents image.now) ≡ file_bytes head.now) }
-    requires same { (F.E.sight mender.old).bytes ≡ option_map (λ told. told.contents image.now) (F.told files.old) }
-    requires room { IsRoomFor head.now plan.now asks.now room }
-    ensures reads { Reads mended_view (F.told files.old) (F.told files.new) result (λ contents. replied_image contents image.now matrix.now targets head.now plan.now asks.now) }
-    ensures totals { Grows (F.told files.old) (F.totals files.old) (F.totals files.new) result (λ contents. replied_image contents image.now matrix.now targets head.now plan.now asks.now) }
-    ensures room { IfOk result (HasRoomFor head.now asks.now) }
-    ensures taken { OnOk result (F.E.sight mender.new ≡ sight_with (F.E.sight mender.old) (mending_reads head.now plan.now)) }
+    requires plan { IsMendable mending.now.rebuild.head.now mending.now.rebuild.plan.now }
+    requires asks { All (IsInRange mending.now.rebuild.head.now) mending.now.rebuild.asks.now }
+    requires fits { ForSome (F.told files.old)
+        (λ told. length (told.contents mending.now.image.now)
+        ≡ file_bytes mending.now.rebuild.head.now) }
+    requires same { (F.E.sight mender.old).bytes
+        ≡ option_map (λ told. told.contents mending.now.image.now) (F.told files.old) }
+    requires room { IsRoomFor mending.now.rebuild.head.now mending.now.rebuild.plan.now
+        mending.now.rebuild.asks.now room }
+    ensures reads { Reads mended_view (F.told files.old) (F.told files.new) result
+        (λ contents. replied_image contents mending.now.image.now
+        (copied_set mending.now.rebuild.head.now mending.now.rebuild.plan.now.recipes)
+        mending.now.rebuild.head.now mending.now.rebuild.plan.now mending.now.rebuild.asks.now) }
+    ensures totals { Grows (F.told files.old) (F.totals files.old) (F.totals files.new) result
+        (λ contents. replied_image contents mending.now.image.now
+        (copied_set mending.now.rebuild.head.now mending.now.rebuild.plan.now.recipes)
+        mending.now.rebuild.head.now mending.now.rebuild.plan.now mending.now.rebuild.asks.now) }
+    ensures room { IfOk result
+        (HasRoomFor mending.now.rebuild.head.now mending.now.rebuild.asks.now) }
+    ensures taken { OnOk result
+        (F.E.sight mender.new
+        ≡ sight_with (F.E.sight mender.old)
+        (mending_reads mending.now.rebuild.head.now mending.now.rebuild.plan.now)) }
     ensures file { IsSameFile (F.E.sight mender.old) (F.E.sight mender.new) }
     ensures untold { F.told files.old ≡ None → F.told files.new ≡ None }
-    ensures cause { HasReadCauses (F.faults files.old) (F.faults files.new) (F.E.faults mender.old) (F.E.faults mender.new) result }
+    ensures cause { HasReadCauses (F.faults files.old) (F.faults files.new) (F.E.faults mender.old)
+        (F.E.faults mender.new) result }
     ensures past_words { IsPastWords result }
 {
-    let mut reader = files.eye(image.as_str(), Duty::Live)?;
-    let rebuilt = copy_beside(
-        files,
-        mender,
-        &mut reader,
-        matrix,
-        targets,
-        image,
-        head,
-        plan,
-        asks,
-        kernel,
-        room,
-    );
+    let mut reader = files.eye(mending.image.as_str(), Duty::Live)?;
+    let rebuilt = copy_beside(files, mender, &mut reader, mending, room);
     files.retire(reader);
     rebuilt
 }
@@ -208,40 +163,56 @@ fn copy_beside<F: Files>(
     files: &mut F,
     mender: &mut F::E,
     reader: &mut F::E,
-    matrix: &Matrix,
-    targets: Mask,
-    image: &Text,
-    head: &ImageHead,
-    plan: &Plan,
-    asks: &[Ask],
-    kernel: &XorKernel,
+    mending: &Mending,
     room: Room,
 ) -> Result<Rebuilt, Fault>
-    requires plan { IsMendable head.now plan.now }
-    requires copied { copied_set head.now plan.now.recipes ≡ survivors matrix.now targets }
-    requires asks { All (IsInRange head.now) asks.now }
-    requires fits { ForSome (F.told files.old) (λ told. length (told.contents image.now) ≡ file_bytes head.now) }
-    requires mender { (F.E.sight mender.old).bytes ≡ option_map (λ told. told.contents image.now) (F.told files.old) }
-    requires reader { (F.E.sight reader.old).bytes ≡ option_map (λ told. told.contents image.now) (F.told files.old) }
-    requires room { IsRoomFor head.now plan.now asks.now room }
-    ensures reads { Reads mended_view (F.told files.old) (F.told files.new) result (λ contents. copied_image contents image.now matrix.now targets head.now plan.now asks.now) }
-    ensures totals { Grows (F.told files.old) (F.totals files.old) (F.totals files.new) result (λ contents. copied_image contents image.now matrix.now targets head.now plan.now asks.now) }
-    ensures room { IfOk result (HasRoomFor head.now asks.now) }
-    ensures mended { OnOk result (F.E.sight mender.new ≡ sight_with (F.E.sight mender.old) (mending_reads head.now plan.now)) }
-    ensures replied { OnOk result (F.E.sight reader.new ≡ sight_with (F.E.sight reader.old) (live_reads head.now plan.now.recipes asks.now)) }
+    requires plan { IsMendable mending.now.rebuild.head.now mending.now.rebuild.plan.now }
+    requires asks { All (IsInRange mending.now.rebuild.head.now) mending.now.rebuild.asks.now }
+    requires fits { ForSome (F.told files.old)
+        (λ told. length (told.contents mending.now.image.now)
+        ≡ file_bytes mending.now.rebuild.head.now) }
+    requires mender { (F.E.sight mender.old).bytes
+        ≡ option_map (λ told. told.contents mending.now.image.now) (F.told files.old) }
+    requires reader { (F.E.sight reader.old).bytes
+        ≡ option_map (λ told. told.contents mending.now.image.now) (F.told files.old) }
+    requires room { IsRoomFor mending.now.rebuild.head.now mending.now.rebuild.plan.now
+        mending.now.rebuild.asks.now room }
+    ensures reads { Reads mended_view (F.told files.old) (F.told files.new) result
+        (λ contents. copied_image contents mending.now.image.now
+        (copied_set mending.now.rebuild.head.now mending.now.rebuild.plan.now.recipes)
+        mending.now.rebuild.head.now mending.now.rebuild.plan.now mending.now.rebuild.asks.now) }
+    ensures totals { Grows (F.told files.old) (F.totals files.old) (F.totals files.new) result
+        (λ contents. copied_image contents mending.now.image.now
+        (copied_set mending.now.rebuild.head.now mending.now.rebuild.plan.now.recipes)
+        mending.now.rebuild.head.now mending.now.rebuild.plan.now mending.now.rebuild.asks.now) }
+    ensures room { IfOk result
+        (HasRoomFor mending.now.rebuild.head.now mending.now.rebuild.asks.now) }
+    ensures mended { OnOk result
+        (F.E.sight mender.new
+        ≡ sight_with (F.E.sight mender.old)
+        (mending_reads mending.now.rebuild.head.now mending.now.rebuild.plan.now)) }
+    ensures replied { OnOk result
+        (F.E.sight reader.new
+        ≡ sight_with (F.E.sight reader.old)
+        (live_reads mending.now.rebuild.head.now mending.now.rebuild.plan.now.recipes
+        mending.now.rebuild.asks.now)) }
     ensures mender_file { IsSameFile (F.E.sight mender.old) (F.E.sight mender.new) }
     ensures reader_file { IsSameFile (F.E.sight reader.old) (F.E.sight reader.new) }
     ensures untold { F.told files.old ≡ None → F.told files.new ≡ None }
     ensures later { F.faults files.old ≤ F.faults files.new }
     ensures mender_later { F.E.faults mender.old ≤ F.E.faults mender.new }
     ensures reader_later { F.E.faults reader.old ≤ F.E.faults reader.new }
+    ensures quiet { OnOk result (F.faults files.new ≡ F.faults files.old) }
+    ensures mender_quiet { OnOk result (F.E.faults mender.new ≡ F.E.faults mender.old) }
+    ensures reader_quiet { OnOk result (F.E.faults reader.new ≡ F.E.faults reader.old) }
     ensures failed { IsErrOf result Fault.ReadFault → Rose (F.faults files.old) (F.faults files.new)
-        ⊎ Rose (F.E.faults mender.old) (F.E.faults mender.new) ⊎ Rose (F.E.faults reader.old) (F.E.faults reader.new) }
+        ⊎ Rose (F.E.faults mender.old) (F.E.faults mender.new) ⊎ Rose (F.E.faults reader.old)
+        (F.E.faults reader.new) }
     ensures no_write { IsErrOf result Fault.WriteFault → ⊥ }
     ensures past_words { IsPastWords result }
 {
-    let mut copier = files.eye(image.as_str(), Duty::Copy)?;
-    let rebuilt = mr_mend::rebuild(mender, reader, &mut copier, head, plan, kernel, asks, room);
+    let mut copier = files.eye(mending.image.as_str(), Duty::Copy)?;
+    let rebuilt = mr_mend::rebuild(mender, reader, &mut copier, &mending.rebuild, room);
     files.retire(copier);
     match rebuilt {
         Ok(rebuilt) => Ok(rebuilt),

@@ -1,9 +1,12 @@
 use Rattle.std.proofs.lemmas.Result.{err_from_is_err_and}
-use Rattle.mr_top.specs.Answer.{matrix_file, plan_answer, plan_given}
-use Rattle.mr_top.specs.Readings.{given}
+use Rattle.mr_steps.specs.TextFiles.{matrix_file}
+use Rattle.mr_top.specs.Plan.{plan_given}
+use Rattle.mr_top.specs.PlanSteps.{plan_answer}
+use Rattle.mr_steps.specs.Readings.{given}
 use Rattle.mr_top.specs.Replies.{output_of}
-use Rattle.mr_top.proofs.Chains.{reads_err, reads_given, reads_then}
-use Rattle.mr_top.proofs.Growing.{grows_given, grows_then}
+use Rattle.mr_steps.proofs.Chains.{reads_err, reads_given, reads_then}
+use Rattle.mr_steps.proofs.Growing.{grows_given, grows_then}
+use Rattle.mr_top.proofs.RunAnswers.{code-known, if-ok}
 use Rattle.mr_top.proofs.plan.plan.Goals as goal
 
 pub returns-in_err-matrix-clause-reads : goal.returns-in_err-matrix-clause-reads
@@ -11,17 +14,20 @@ unfolding plan_answer
 returns-in_err-matrix-clause-reads g c =
     let p = err_from_is_err_and c.from_residual.result c.from_residual.ensures.1 in
     rw (p.1, p.2) (reads_err (λ m. m) output_of _ _ _
-    (λ contents. matrix_file contents c.args.matrix.now) (λ contents m. given (plan_given c.args.budget m c.args.lost.now)) c.in_err-matrix.ensures.reads)
+    (λ contents. matrix_file contents c.args.words.now.matrix) (λ contents m. given (plan_given c.args.words.now.budget m c.args.words.now.lost)) c.in_err-matrix.ensures.reads)
 
 pub returns-clause-reads : goal.returns-clause-reads
 unfolding plan_answer
 returns-clause-reads g c = reads_then (λ m. m) output_of _ _ _ c.in_ok-matrix.matrix _
-    (λ contents. matrix_file contents c.args.matrix.now) (λ contents m. given (plan_given c.args.budget m c.args.lost.now)) c.in_ok-matrix.ensures.reads
+    (λ contents. matrix_file contents c.args.words.now.matrix) (λ contents m. given (plan_given c.args.words.now.budget m c.args.words.now.lost)) c.in_ok-matrix.ensures.reads
     (reads_given output_of _ _ _ c.plan_of.ensures.given)
 
 pub returns-clause-totals : goal.returns-clause-totals
 unfolding plan_answer
 returns-clause-totals g c = grows_then (λ m. m) _ _ _ _ _ c.in_ok-matrix.matrix _
-    (λ contents. matrix_file contents c.args.matrix.now) (λ contents m. given (plan_given c.args.budget m c.args.lost.now))
+    (λ contents. matrix_file contents c.args.words.now.matrix) (λ contents m. given (plan_given c.args.words.now.budget m c.args.words.now.lost))
     c.in_ok-matrix.ensures.reads c.in_ok-matrix.ensures.totals
-    (grows_given _ _ _ (plan_given c.args.budget c.in_ok-matrix.matrix c.args.lost.now))
+    (grows_given _ _ _ (plan_given c.args.words.now.budget c.in_ok-matrix.matrix c.args.words.now.lost))
+
+pub returns-clause-coded : goal.returns-clause-coded
+returns-clause-coded g c = if-ok c.plan_of.result (code-known _ _ c.in_ok-matrix.matrix c.args.words.now.matrix c.in_ok-matrix.ensures.code c.in_ok-matrix.ensures.reads)

@@ -1,25 +1,52 @@
+use Rattle.mr_io.proofs.Consuming.{front_none}
+use Rattle.std.proofs.Common.{◌+◌, [], subst, sym}
+use Rattle.mr_io.specs.Reading.{ReadsFront}
 use Rattle.std.proofs.lemmas.Result.{err_from_is_err_and}
-use Rattle.mr_top.specs.Answer.{matrix_file, rebuild_answer, rebuild_code, until_script, until_script_of_code}
+use Rattle.mr_top.specs.RebuildSteps.{image_read, rebuild_answer}
+use Rattle.mr_mend.specs.Scripts.{script_limit}
+use Rattle.mr_top.specs.Rebuild.{image_accepted}
 use Rattle.mr_top.specs.Replies.{output_of}
-use Rattle.mr_top.proofs.CodewordsOwn.{own-from-reads}
-use Rattle.mr_top.proofs.WithScript.{kept-then, with-err, with-then}
+use Rattle.mr_steps.specs.Steps.{EndsScript}
+use Rattle.mr_top.proofs.Accepting.{image-tells}
+use Rattle.mr_top.proofs.ImageSteps.{asks-err, asks-then, asks_next}
+use Rattle.mr_top.proofs.RunAnswers.{code-of-image, if-ok}
+use Rattle.mr_top.proofs.WithScript.{kept-value, on-ok, with-err}
 use Rattle.mr_top.proofs.rebuild.rebuild.Goals as goal
 
-pub returns-in_err-matrix-clause-follows : goal.returns-in_err-matrix-clause-follows
+pub returns-in_err-read-clause-follows : goal.returns-in_err-read-clause-follows
 unfolding rebuild_answer
-returns-in_err-matrix-clause-follows g c =
+returns-in_err-read-clause-follows g c =
     let p = err_from_is_err_and c.from_residual.result c.from_residual.ensures.1 in
-    rw (p.1, p.2) (with-err (λ m. m) output_of _ _ _ _ _ _ (λ contents. matrix_file contents c.args.matrix.now) (λ contents left m. rebuild_code contents left c.args.image.now c.args.lost.now c.args.plan.now c.args.budget m) c.in_err-matrix.ensures.reads)
+    rw (p.1, p.2) (with-err (λ read. read) output_of _ _ _ _ _ _ (λ contents. image_read contents c.args.words.now)
+    (λ contents left read. asks_next contents left c.args.words.now read) c.in_err-read.ensures.reads)
+
+pub returns-in_err-asks-clause-follows : goal.returns-in_err-asks-clause-follows
+returns-in_err-asks-clause-follows g c =
+    let p = err_from_is_err_and c.from_residual-in_err-asks.result c.from_residual-in_err-asks.ensures.1 in
+    rw (p.1, p.2) (asks-err c.args.words.now _ _ _ _ _ c.in_ok-read.read c.in_ok-read.ensures.reads c.in_ok-read.ensures.totals _ c.in_err-asks.ensures.given)
+
+pub returns-in_err-asks-clause-kept : goal.returns-in_err-asks-clause-kept
+returns-in_err-asks-clause-kept g c = kept-value (λ read. read) _ _ c.in_ok-read.read (λ contents. image_read contents c.args.words.now)
+    (λ contents. image_accepted contents c.args.words.now) _ _ (λ contents. image-tells contents [] c.args.words.now) c.in_ok-read.ensures.reads
 
 pub returns-clause-follows : goal.returns-clause-follows
-unfolding rebuild_answer
-returns-clause-follows g c = with-then (λ m. m) output_of _ _ _ _ _ _ _ c.in_ok-matrix.matrix _ (λ contents. matrix_file contents c.args.matrix.now) (λ contents left m. rebuild_code contents left c.args.image.now c.args.lost.now c.args.plan.now c.args.budget m)
-    c.in_ok-matrix.ensures.reads c.in_ok-matrix.ensures.totals c.rebuild_matrix.ensures.follows
+returns-clause-follows g c = asks-then c.args.words.now _ _ _ _ _ c.in_ok-read.read c.in_ok-read.ensures.reads c.in_ok-read.ensures.totals _ _ c.in_ok-asks.asks _
+    c.in_ok-asks.ensures.given c.rebuild_read.ensures.reads c.rebuild_read.ensures.totals
 
 pub returns-clause-kept : goal.returns-clause-kept
-unfolding until_script
-returns-clause-kept g c = kept-then (λ m. m) _ _ c.in_ok-matrix.matrix (λ contents. matrix_file contents c.args.matrix.now) (λ contents m. until_script_of_code contents c.args.image.now c.args.lost.now c.args.plan.now m) _ _ c.in_ok-matrix.ensures.reads c.rebuild_matrix.ensures.kept
+returns-clause-kept g c = kept-value (λ read. read) _ _ c.in_ok-read.read (λ contents. image_read contents c.args.words.now)
+    (λ contents. image_accepted contents c.args.words.now) _ _ (λ contents. image-tells contents [] c.args.words.now) c.in_ok-read.ensures.reads
 
-pub returns-clause-codewords : goal.returns-clause-codewords
-returns-clause-codewords g c = own-from-reads _ _ _ _ _ _ _ c.args.matrix.now c.args.image.now c.args.lost.now c.args.plan.now c.args.budget c.in_ok-matrix.matrix
-    c.in_ok-matrix.ensures.code c.in_ok-matrix.ensures.reads (returns-clause-follows g c)
+pub returns-clause-ended : goal.returns-clause-ended
+returns-clause-ended g c = subst (λ s. EndsScript (g.S.Source.left c.args.lent.now.script.now) (g.S.Source.left s) c.rebuild_read.result) (sym c.rebuild_read.ensures.kept)
+    (on-ok c.rebuild_read.result _ c.in_ok-asks.ensures.ended)
+
+pub returns-clause-coded : goal.returns-clause-coded
+returns-clause-coded g c = if-ok c.rebuild_read.result (code-of-image _ _ c.in_ok-read.read c.args.words.now c.in_ok-read.ensures.sound.code c.in_ok-read.ensures.reads)
+
+pub returns-in_err-read-clause-script_front : goal.returns-in_err-read-clause-script_front
+returns-in_err-read-clause-script_front g c = front_none _ _
+
+pub returns-clause-script_front : goal.returns-clause-script_front
+returns-clause-script_front g c = subst (λ s. ReadsFront (g.S.Source.left c.args.lent.now.script.now) (g.S.Source.left s) (script_limit + 1))
+    (sym c.rebuild_read.ensures.kept) c.in_ok-asks.ensures.front

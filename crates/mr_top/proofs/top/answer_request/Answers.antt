@@ -1,9 +1,15 @@
-use Rattle.std.proofs.Common.{Ok}
-use Rattle.mr_top.specs.Answer.{check_answer, encode_answer, make_given, plan_answer}
-use Rattle.mr_top.specs.Readings.{given}
+use Rattle.mr_io.proofs.Consuming.{front_none}
+use Rattle.std.proofs.Common.{◌+◌, Ok, subst, sym}
+use Rattle.mr_io.specs.Reading.{ReadsFront}
+use Rattle.mr_mend.specs.Scripts.{script_limit}
+use Rattle.mr_top.specs.CheckSteps.{check_answer}
+use Rattle.mr_top.specs.EncodeSteps.{encode_answer}
+use Rattle.mr_top.specs.Make.{make_given}
+use Rattle.mr_top.specs.PlanSteps.{plan_answer}
+use Rattle.mr_steps.specs.Readings.{given}
 use Rattle.mr_top.specs.Replies.{output_of}
-use Rattle.mr_top.proofs.Chains.{reads_given}
-use Rattle.mr_top.proofs.Growing.{grows_given}
+use Rattle.mr_steps.proofs.Chains.{reads_given}
+use Rattle.mr_steps.proofs.Growing.{grows_given}
 use Rattle.mr_top.proofs.WithScript.{with-files, with-request}
 use Rattle.mr_top.proofs.top.answer_request.Goals as goal
 
@@ -23,3 +29,21 @@ returns-in-Make-clause-follows g c = with-request _ _ _ _ _ _ _ _ c.in-Make.is (
 pub returns-in-Encode-clause-follows : goal.returns-in-Encode-clause-follows
 returns-in-Encode-clause-follows g c = with-request _ _ _ _ _ _ _ _ c.in-Encode.is (with-files output_of _ _ _ _ _ _
     (λ contents. encode_answer contents c.in-Encode.matrix c.in-Encode.payload c.in-Encode.stripes c.in-Encode.bytes) c.encode.ensures.reads c.encode.ensures.totals)
+
+pub returns-in-Rebuild-clause-follows : goal.returns-in-Rebuild-clause-follows
+returns-in-Rebuild-clause-follows g c = with-request _ _ _ _ _ _ _ _ c.in-Rebuild.is c.rebuild.ensures.follows
+
+pub returns-in-Plan-clause-script_front : goal.returns-in-Plan-clause-script_front
+returns-in-Plan-clause-script_front g c = subst (λ s. ReadsFront (g.S.Source.left c.args.lent.now.script.now) (g.S.Source.left s) (script_limit + 1))
+    (sym c.plan.ensures.kept) (front_none _ _)
+
+pub returns-in-Check-clause-script_front : goal.returns-in-Check-clause-script_front
+returns-in-Check-clause-script_front g c = subst (λ s. ReadsFront (g.S.Source.left c.args.lent.now.script.now) (g.S.Source.left s) (script_limit + 1))
+    (sym c.check.ensures.kept) (front_none _ _)
+
+pub returns-in-Make-clause-script_front : goal.returns-in-Make-clause-script_front
+returns-in-Make-clause-script_front g c = front_none _ _
+
+pub returns-in-Encode-clause-script_front : goal.returns-in-Encode-clause-script_front
+returns-in-Encode-clause-script_front g c = subst (λ s. ReadsFront (g.S.Source.left c.args.lent.now.script.now) (g.S.Source.left s) (script_limit + 1))
+    (sym c.encode.ensures.kept) (front_none _ _)

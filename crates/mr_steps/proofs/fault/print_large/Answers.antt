@@ -1,0 +1,8 @@
+use Rattle.std.proofs.Common.{◌∙◌, [], ◌∷◌, codes}
+use Rattle.mr_steps.specs.Faults.{joined}
+use Rattle.mr_steps.proofs.Sinks.{puts_same}
+use Rattle.mr_steps.proofs.fault.print_large.Goals as goal
+
+pub returns-clause-puts : goal.returns-clause-puts
+returns-clause-puts g c = puts_same (λ j. joined (codes "status 3 large " ∷ c.what_text.ensures j ∷ codes " "
+    ∷ (c.as_bytes.ensures.value ∙ c.format.ensures.text) j ∷ codes "\n" ∷ [])) c.put_pieces.ensures.puts

@@ -1,0 +1,10 @@
+pub mod Faults
+pub mod Requests
+pub mod Readings
+pub mod Refusals
+pub mod Steps
+pub mod Texts
+pub mod TextFiles
+pub mod Losses
+pub mod Lines
+pub mod Sinks

@@ -1,0 +1,86 @@
+-- The answer of a request, as a relation between what it accepts and what is written.
+use Rattle.std.specs.Prelude.{Bool, List, None, Ok, Option, Some, false, is_ok, true, ℕ, ⊤, ◌≡◌}
+use Rattle.mr_steps.specs.Refusals.{Gave, refusal_of}
+use Rattle.mr_steps.specs.Requests.{rebuild_words, request_of}
+use Rattle.mr_steps.specs.Sinks.{Output}
+use Rattle.mr_steps.specs.Texts.{IsCodeAt}
+use Rattle.mr_steps.specs.declared.fault.Fault.{Fault}
+use Rattle.mr_steps.specs.declared.fault.Fault.TheVariants.{Usage}
+use Rattle.mr_steps.specs.declared.request.Request.{Request}
+use Rattle.mr_steps.specs.declared.request.Request.TheVariants.{Check, Encode, Make, Plan, Rebuild}
+use Rattle.mr_top.specs.Check.{check_accepted, check_written}
+use Rattle.mr_top.specs.Encode.{encode_accepted, encode_written}
+use Rattle.mr_top.specs.Make.{make_given}
+use Rattle.mr_top.specs.Plan.{plan_accepted, plan_written}
+use Rattle.mr_top.specs.Rebuild.{IsRebuilt, image_accepted, rebuild_accepted}
+
+-- The request is accepted over files with these contents and a script with these bytes left, and
+-- this is its answer.
+abbrev pub IsAnswered : Request → (List ℕ → List ℕ) → List ℕ → Output → Type 0
+IsAnswered (Plan matrix lost workers budget) contents left output =
+    Gave (plan_accepted contents matrix lost budget) (λ p. output ≡ plan_written p)
+IsAnswered (Check matrix lost plan) contents left output =
+    Gave (check_accepted contents matrix lost plan) (λ cost. output ≡ check_written cost)
+IsAnswered (Make code p) contents left output = make_given code p ≡ Ok output
+IsAnswered (Encode matrix payload stripes bytes) contents left output =
+    Gave (encode_accepted contents matrix payload stripes bytes)
+    (λ image. output ≡ encode_written image)
+IsAnswered (Rebuild matrix image lost workers budget plan) contents left output =
+    Gave (rebuild_accepted contents left (rebuild_words matrix image lost workers budget plan))
+    (λ r. IsRebuilt r output)
+
+-- the first refusal of a request
+abbrev pub refusal : (List ℕ → List ℕ) → List ℕ → Request → Option Fault
+refusal contents left (Plan matrix lost workers budget) =
+    refusal_of (plan_accepted contents matrix lost budget)
+refusal contents left (Check matrix lost plan) =
+    refusal_of (check_accepted contents matrix lost plan)
+refusal contents left (Make code p) = refusal_of (make_given code p)
+refusal contents left (Encode matrix payload stripes bytes) =
+    refusal_of (encode_accepted contents matrix payload stripes bytes)
+refusal contents left (Rebuild matrix image lost workers budget plan) =
+    refusal_of (rebuild_accepted contents left
+    (rebuild_words matrix image lost workers budget plan))
+
+-- the first refusal of the words' request; words that are none are refused as such
+abbrev pub words_refusal : (List ℕ → List ℕ) → List ℕ → Option Request → Option Fault
+words_refusal contents left None = Some Usage
+words_refusal contents left (Some request) = refusal contents left request
+
+-- the request comes to the step that reads the script: a rebuild that nothing refuses before it
+abbrev pub reaches_script : (List ℕ → List ℕ) → Request → Bool
+reaches_script contents (Plan matrix lost workers budget) = false
+reaches_script contents (Check matrix lost plan) = false
+reaches_script contents (Make code p) = false
+reaches_script contents (Encode matrix payload stripes bytes) = false
+reaches_script contents (Rebuild matrix image lost workers budget plan) =
+    is_ok (image_accepted contents (rebuild_words matrix image lost workers budget plan))
+
+-- the same for the words' request
+abbrev pub words_reach_script : (List ℕ → List ℕ) → Option Request → Bool
+words_reach_script contents None = false
+words_reach_script contents (Some request) = reaches_script contents request
+
+-- the words ask for a script: those of a rebuild alone
+abbrev pub asks_script : Option Request → Bool
+asks_script None = false
+asks_script (Some (Plan matrix lost workers budget)) = false
+asks_script (Some (Check matrix lost plan)) = false
+asks_script (Some (Make code p)) = false
+asks_script (Some (Encode matrix payload stripes bytes)) = false
+asks_script (Some (Rebuild matrix image lost workers budget plan)) = true
+
+-- This is the answer to the words.
+pub record IsAnswer (words : List (List ℕ)) (contents : List ℕ → List ℕ) (left : List ℕ)
+    (output : Output) : Type 0 where
+  pub request : Request
+  pub is : request_of words ≡ Some request
+  pub answered : IsAnswered request contents left output
+
+-- the same for the matrix file of a request whose plan is of its matrix
+abbrev pub HasCode : Request → (List ℕ → List ℕ) → Type 0
+HasCode (Plan matrix lost workers budget) contents = IsCodeAt contents matrix
+HasCode (Check matrix lost plan) contents = ⊤
+HasCode (Make code p) contents = ⊤
+HasCode (Encode matrix payload stripes bytes) contents = ⊤
+HasCode (Rebuild matrix image lost workers budget plan) contents = IsCodeAt contents matrix

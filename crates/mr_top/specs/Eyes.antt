@@ -1,0 +1,72 @@
+-- The eyes that a request asks for, each where nothing before it was refused.
+use Rattle.std.specs.Prelude.{Err, List, None, Ok, Option, Result, Some, [], ℕ, ◌++◌, ◌∷◌}
+use Rattle.mr_io.specs.declared.asked.Asked.{Asked}
+use Rattle.mr_io.specs.declared.duty.Duty.TheVariants.{Copy, Head, Live, Mend, Text}
+use Rattle.mr_words.specs.declared.rebuild_words.RebuildWords.{RebuildWords}
+use Rattle.mr_steps.specs.Requests.{rebuild_words}
+use Rattle.mr_steps.specs.Losses.{loss_accepted}
+use Rattle.mr_steps.specs.declared.fault.Fault.{Fault}
+use Rattle.mr_steps.specs.declared.request.Request.{Request}
+use Rattle.mr_steps.specs.declared.request.Request.TheVariants.{Check, Encode, Make, Plan, Rebuild}
+use Rattle.mr_top.specs.Encode.{layout_accepted}
+use Rattle.mr_top.specs.Rebuild.{file_accepted, rebuild_accepted}
+
+-- these eyes, where the steps before them gave a value
+abbrev pub after : {X : Type 0} → Result X Fault → List Asked → List Asked
+after (Ok x) eyes = eyes
+after (Err fault) eyes = []
+
+-- the eye of a plan file, where one is named
+abbrev pub plan_eyes : Option (List ℕ) → List Asked
+plan_eyes None = []
+plan_eyes (Some plan) = record { name = plan; duty = Text } ∷ []
+
+-- the eyes that mend an image
+abbrev pub mend_eyes : List ℕ → List Asked
+mend_eyes image =
+    record { name = image; duty = Mend } ∷ record { name = image; duty = Live }
+    ∷ record { name = image; duty = Copy } ∷ []
+
+-- the eyes of a rebuild
+abbrev pub rebuild_eyes : (List ℕ → List ℕ) → List ℕ → RebuildWords → List Asked
+rebuild_eyes contents left words =
+    record { name = words.matrix; duty = Text }
+    ∷ after (loss_accepted contents words.matrix words.lost) (plan_eyes words.plan)
+    ++ after (file_accepted contents words) (record { name = words.image; duty = Head } ∷ [])
+    ++ after (rebuild_accepted contents left words) (mend_eyes words.image)
+
+-- the eyes of a request
+abbrev pub request_eyes : (List ℕ → List ℕ) → List ℕ → Request → List Asked
+request_eyes contents left (Plan matrix lost workers budget) =
+    record { name = matrix; duty = Text } ∷ []
+request_eyes contents left (Check matrix lost plan) =
+    record { name = matrix; duty = Text }
+    ∷ after (loss_accepted contents matrix lost) (record { name = plan; duty = Text } ∷ [])
+request_eyes contents left (Make code p) = []
+request_eyes contents left (Encode matrix payload stripes bytes) =
+    record { name = matrix; duty = Text }
+    ∷ after (layout_accepted contents matrix stripes bytes)
+    (record { name = payload; duty = Copy } ∷ [])
+request_eyes contents left (Rebuild matrix image lost workers budget plan) =
+    rebuild_eyes contents left (rebuild_words matrix image lost workers budget plan)
+
+-- the eyes of words: none where they are not read
+abbrev pub words_eyes : (List ℕ → List ℕ) → List ℕ → Option Request → List Asked
+words_eyes contents left None = []
+words_eyes contents left (Some request) = request_eyes contents left request
+
+-- the eyes of an image file that is rebuilt
+abbrev pub image_eyes : List ℕ → List Asked
+image_eyes image = record { name = image; duty = Head } ∷ mend_eyes image
+
+-- all eyes of a command, in order: none where the words are not read
+abbrev pub command_eyes : Option Request → List Asked
+command_eyes None = []
+command_eyes (Some (Plan matrix lost workers budget)) = record { name = matrix; duty = Text } ∷ []
+command_eyes (Some (Check matrix lost plan)) =
+    record { name = matrix; duty = Text } ∷ record { name = plan; duty = Text } ∷ []
+command_eyes (Some (Make code p)) = []
+command_eyes (Some (Encode matrix payload stripes bytes)) =
+    record { name = matrix; duty = Text } ∷ record { name = payload; duty = Copy } ∷ []
+command_eyes (Some (Rebuild matrix image lost workers budget plan)) =
+    record { name = matrix; duty = Text } ∷ plan_eyes plan ++ image_eyes image

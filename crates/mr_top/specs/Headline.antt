@@ -1,0 +1,121 @@
+-- The headline, for `plan` and for `rebuild`: a loss is refused as undetermined exactly where the
+-- survivors do not determine it; else the plan is valid, and within the budget of the least cost
+-- and the first such; and where the survivors come from codewords, the image written and every
+-- reply are the codewords' own.
+use Rattle.std.specs.Int.{bit_at}
+use Rattle.std.specs.Prelude.{List, None, Ok, Option, Some, false, length, option_map, true, ℕ, ⊤, ◌*◌, ◌++◌, ◌<◌, ◌≡◌, ◌≤◌}
+use Rattle.mr_eq.specs.Laws.{IsFirstSmallest}
+use Rattle.mr_image.specs.Heads.{image_bytes}
+use Rattle.mr_image.specs.Images.{ComeFrom, Layout, code_image, every_stripe, image_of, mended}
+use Rattle.mr_io.specs.Counts.{counted}
+use Rattle.mr_mend.specs.Replies.{reply_lines}
+use Rattle.mr_mend.specs.declared.asks.Ask.{Ask}
+use Rattle.mr_model.specs.Choice.{search_of}
+use Rattle.mr_model.specs.Code.{Code, cost, has_equation, plain}
+use Rattle.mr_model.specs.Members.{members}
+use Rattle.mr_model.specs.Plans.{IsValidPlan}
+use Rattle.mr_model.specs.Search.{work}
+use Rattle.mr_plan.specs.PlanText.{plan_text}
+use Rattle.mr_plan.specs.Plans.{PlanParts, survivors}
+use Rattle.mr_plan.specs.declared.kinds.Kind.TheVariants.{Given, Least, Spent}
+use Rattle.mr_words.specs.declared.rebuild_words.RebuildWords.{RebuildWords}
+use Rattle.mr_steps.specs.Requests.{rebuild_words}
+use Rattle.mr_steps.specs.Faults.{fault_line}
+use Rattle.mr_steps.specs.Lines.{line_text}
+use Rattle.mr_steps.specs.Losses.{loss_of, lost_given, symbols_of_devices, targets_given}
+use Rattle.mr_steps.specs.Sinks.{HasLine}
+use Rattle.mr_steps.specs.Texts.{matrix_given}
+use Rattle.mr_steps.specs.declared.choice_line.ChoiceLine.{ChoiceLine}
+use Rattle.mr_steps.specs.declared.choice_line.ChoiceLine.TheVariants.{Given as GivenLine, Least as LeastLine, Spent as SpentLine}
+use Rattle.mr_steps.specs.declared.fault.Fault.TheVariants.{Undetermined}
+use Rattle.mr_steps.specs.declared.request.Request.{Request}
+use Rattle.mr_steps.specs.declared.request.Request.TheVariants.{Check, Encode, Make, Plan, Rebuild}
+use Rattle.mr_top.specs.Ran.{Ran, Wrote}
+use Rattle.mr_top.specs.Rebuild.{asks_given, head_given, plan_file_given, stripes_text}
+
+-- The survivors do not determine the lost symbol t, and each lost symbol below it they do.
+pub record IsLeastUndetermined (m : Code) (lost t : ℕ) : Type 0 where
+  pub member : bit_at lost t ≡ 1
+  pub none : has_equation m (survivors m lost) t ≡ false
+  pub least : (i : ℕ) → i < t → bit_at lost i ≡ 1 → has_equation m (survivors m lost) i ≡ true
+
+-- Status 7 comes exactly where a lost symbol is not determined, and the line names the least one.
+pub record IsRefused (contents : List ℕ → List ℕ) (matrix lost : List ℕ) (failed : Type 0)
+    (ran : Ran) : Type 0 where
+  pub refused : (m : Code) (devices t : ℕ) → matrix_given (contents matrix) ≡ Ok m
+      → lost_given m.devices lost ≡ Ok devices
+      → IsLeastUndetermined m (symbols_of_devices m devices) t
+      → (ran.status ≡ 7)
+      × HasLine ran.report_old ran.report_new failed (fault_line (Undetermined t))
+  pub only : (m : Code) (devices : ℕ) → matrix_given (contents matrix) ≡ Ok m
+      → lost_given m.devices lost ≡ Ok devices
+      → ran.status ≡ 7 → (t : ℕ) × IsLeastUndetermined m (symbols_of_devices m devices) t
+
+-- The plan is valid. Without a plan file it is the first smallest set where its work is within the
+-- budget, and else the plain set; with one it is that file's.
+pub record IsPlanWanted (m : Code) (lost budget : ℕ) (handed : Option (List ℕ)) (plan : PlanParts)
+    (line : ChoiceLine) : Type 0 where
+  pub valid : IsValidPlan m (survivors m lost) lost plan.set plan.recipes
+  pub least : handed ≡ None → work (search_of m (survivors m lost) lost) ≤ budget
+      → (plan.kind ≡ Least) × IsFirstSmallest (loss_of m lost) plan.set
+      × (line ≡ LeastLine (cost m plan.set) (work (search_of m (survivors m lost) lost)))
+  pub spent : handed ≡ None → budget < work (search_of m (survivors m lost) lost)
+      → (plan.kind ≡ Spent) × (plan.set ≡ plain m (survivors m lost) lost)
+      × (line ≡ SpentLine (cost m plan.set) budget)
+  pub given : (bytes : List ℕ) → handed ≡ Some bytes
+      → (plan.kind ≡ Given)
+      × (plan_file_given m lost handed ≡ Ok (Some (record { plan = plan; line = line })))
+      × (line ≡ GivenLine (cost m plan.set))
+
+-- The plan was written, and its line to the report.
+pub record HasPlanned (m : Code) (lost budget : ℕ) (ran : Ran) : Type 0 where
+  pub plan : PlanParts
+  pub line : ChoiceLine
+  pub wanted : IsPlanWanted m lost budget None plan line
+  pub wrote : Wrote ran (plan_text plan) (line_text line)
+
+-- `plan` keeps to the headline.
+pub record PlansRight (contents : List ℕ → List ℕ) (matrix lost : List ℕ) (budget : ℕ)
+    (failed : Type 0) (ran : Ran) : Type 0 where
+  pub refused : IsRefused contents matrix lost failed ran
+  pub planned : ran.status ≡ 0 → (m : Code) (targets : ℕ) → matrix_given (contents matrix) ≡ Ok m
+      → targets_given m lost ≡ Ok targets → HasPlanned m targets budget ran
+
+-- The image is mended by the plan, each stripe once, and written; where its survivors come from
+-- data, what was written and each reply are the codewords' own.
+pub record HasRebuilt (m : Code) (lost budget : ℕ) (handed : Option (List ℕ)) (l : Layout)
+    (bytes : List ℕ) (asks : List Ask) (ran : Ran) : Type 0 where
+  pub plan : PlanParts
+  pub line : ChoiceLine
+  pub wanted : IsPlanWanted m lost budget handed plan line
+  pub once : ran.totals_new.mend
+      ≡ counted ran.totals_old.mend (l.stripes * (length (members plan.set) * l.symbol_bytes))
+  pub front : List ℕ
+  pub front_is : front ≡ plan_text plan ++ line_text line ++ stripes_text l.stripes
+  pub mended_file : Wrote ran
+      (image_bytes l (mended l (every_stripe plan.recipes) (image_of l bytes)))
+      (front ++ reply_lines (mended l (every_stripe plan.recipes) (image_of l bytes)) asks)
+  pub own : (columns : ℕ → List (List ℕ))
+      → ComeFrom l (every_stripe m) (every_stripe (survivors m lost)) (image_of l bytes) columns
+      → Wrote ran (image_bytes l (code_image l (every_stripe m) columns))
+      (front ++ reply_lines (code_image l (every_stripe m) columns) asks)
+
+-- `rebuild` keeps to the headline.
+pub record RebuildsRight (contents : List ℕ → List ℕ) (left : List ℕ) (words : RebuildWords)
+    (failed : Type 0) (ran : Ran) : Type 0 where
+  pub refused : IsRefused contents words.matrix words.lost failed ran
+  pub rebuilt : ran.status ≡ 0 → (m : Code) (targets : ℕ) (l : Layout) (asks : List Ask)
+      → matrix_given (contents words.matrix) ≡ Ok m → targets_given m words.lost ≡ Ok targets
+      → head_given m (contents words.image) ≡ Ok l → asks_given l left ≡ Ok asks
+      → HasRebuilt m targets words.budget (option_map contents words.plan) l
+      (contents words.image) asks ran
+
+-- a run of this request keeps to the headline
+abbrev pub Headline : Request → (List ℕ → List ℕ) → List ℕ → Type 0 → Ran → Type 0
+Headline (Plan matrix lost workers budget) contents left failed ran =
+    PlansRight contents matrix lost budget failed ran
+Headline (Check matrix lost plan) contents left failed ran = ⊤
+Headline (Make code p) contents left failed ran = ⊤
+Headline (Encode matrix payload stripes bytes) contents left failed ran = ⊤
+Headline (Rebuild matrix image lost workers budget plan) contents left failed ran =
+    RebuildsRight contents left (rebuild_words matrix image lost workers budget plan) failed ran

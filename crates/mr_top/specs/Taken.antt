@@ -1,0 +1,53 @@
+-- The bytes that each command takes, by duty.
+use Rattle.std.specs.Prelude.{List, None, Option, Some, filter, length, ℕ, ◌*◌, ◌+◌, ◌≡◌}
+use Rattle.mr_io.specs.Counts.{counted}
+use Rattle.mr_io.specs.Growth.{grown, no_bytes}
+use Rattle.mr_io.specs.declared.totals.Totals.{Totals}
+use Rattle.mr_mend.specs.declared.asks.Ask.{Ask}
+use Rattle.mr_model.specs.Members.{members}
+use Rattle.mr_model.specs.Sets.{has}
+use Rattle.mr_plan.specs.Plans.{survivors}
+use Rattle.mr_words.specs.declared.rebuild_words.RebuildWords.{RebuildWords}
+use Rattle.mr_steps.specs.Requests.{rebuild_words}
+use Rattle.mr_steps.specs.Refusals.{Gave}
+use Rattle.mr_steps.specs.declared.request.Request.{Request}
+use Rattle.mr_steps.specs.declared.request.Request.TheVariants.{Check, Encode, Make, Plan, Rebuild}
+use Rattle.mr_top.specs.Rebuild.{RebuildAccepted, rebuild_accepted}
+
+-- the bytes of a plan file, where one is named
+abbrev pub plan_bytes : (List ℕ → List ℕ) → Option (List ℕ) → ℕ
+plan_bytes contents None = 0
+plan_bytes contents (Some plan) = length (contents plan)
+
+-- the reads of survivors
+abbrev pub survivor_asks : RebuildAccepted → List Ask
+survivor_asks r = filter (λ ask. has (survivors r.code r.lost) ask.symbol) r.asks
+
+-- A rebuild took its text files, 32 bytes of head, the plan's set once in each stripe, the
+-- survivors that are asked for, and all survivors once in each stripe.
+pub record IsTaken (contents : List ℕ → List ℕ) (words : RebuildWords) (r : RebuildAccepted)
+    (old new : Totals) : Type 0 where
+  pub text : new.text
+      ≡ counted old.text (length (contents words.matrix) + plan_bytes contents words.plan)
+  pub head : new.head ≡ counted old.head 32
+  pub mend : new.mend
+      ≡ counted old.mend
+      (r.layout.stripes * (length (members r.chosen.plan.set) * r.layout.symbol_bytes))
+  pub live : new.live ≡ counted old.live (length (survivor_asks r) * r.layout.symbol_bytes)
+  pub copy : new.copy
+      ≡ counted old.copy
+      (r.layout.stripes * (length (members (survivors r.code r.lost)) * r.layout.symbol_bytes))
+
+-- the totals of each duty, after a run of this request that answered
+abbrev pub TookRight : Request → (List ℕ → List ℕ) → List ℕ → Totals → Totals → Type 0
+TookRight (Plan matrix lost workers budget) contents left old new =
+    new ≡ grown old (record no_bytes { text = length (contents matrix) })
+TookRight (Check matrix lost plan) contents left old new =
+    new ≡ grown old (record no_bytes { text = length (contents matrix) + length (contents plan) })
+TookRight (Make code p) contents left old new = new ≡ grown old no_bytes
+TookRight (Encode matrix payload stripes bytes) contents left old new =
+    new ≡ grown old
+    (record no_bytes { text = length (contents matrix); copy = length (contents payload) })
+TookRight (Rebuild matrix image lost workers budget plan) contents left old new =
+    Gave (rebuild_accepted contents left (rebuild_words matrix image lost workers budget plan))
+    (λ r. IsTaken contents (rebuild_words matrix image lost workers budget plan) r old new)
