@@ -1,5 +1,5 @@
-//! Tests of the calls of the crates below the top one: bases, equations, searches, plans, kernels, and the forms and
-//! adapters of the outside. There is nothing here but tests.
+//! Tests of the calls of the crates below the top one: bases, equations, searches, single equations and degraded reads.
+//! There is nothing here but tests.
 #![tactic(auto)]
 
 #[cfg(test)]

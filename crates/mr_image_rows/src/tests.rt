@@ -1,13 +1,8 @@
-//! The tests, a file for each part, and what they share.
+//! The tests, a file for each part.
 
 mod encode;
-mod failing;
-mod fixture;
-mod images;
-mod realistic;
+mod given_plans;
+mod heads;
+mod large;
 mod rebuild;
-mod rebuild_failing;
-mod rebuild_plans;
-mod rebuild_refused;
-mod rebuild_words;
-mod words;
+mod refused;

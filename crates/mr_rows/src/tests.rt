@@ -1,11 +1,11 @@
 //! The tests, a file for each part, and what they share.
 
-mod check;
+mod checks;
 mod failing;
-mod fixture;
-mod larger;
-mod make;
-mod plan;
-mod requests;
-mod texts;
+mod faults;
+mod long_files;
+mod makers;
+mod plans;
+mod prices;
+mod rows;
 mod words;

@@ -1,5 +1,5 @@
-//! Tests of `minread` for scripts: what the top call and the calls below it answer to the reads that are asked for. There is
-//! nothing here but tests.
+//! Tests of `minread` for scripts: what the top call answers to the reads that are asked for. There is nothing here but
+//! tests, and each is a table of cases.
 #![tactic(auto)]
 
 #[cfg(test)]

@@ -1,11 +1,7 @@
-//! The tests, a file for each part, and what they share.
+//! The tests, a file for each part.
 
 mod failing;
-mod fixture;
-mod images;
 mod lines;
-mod near;
-mod order;
 mod replies;
 mod sizes;
-mod stripes;
+mod varied;

@@ -1,193 +1,118 @@
-//! The search, beside a slow choice among all sets of survivors.
+//! The calls of the search, each with ample memory: their answers for row-diagonal parity of the prime 3. A set of symbols
+//! is the number whose bit i tells of symbol i.
 
-use crate::tests::values::{matrix_of, problem_of, try_problem};
+use crate::tests::values::{assert_masks, matrix_of, problem_of, survivors};
 use mr_bits::Mask;
-use mr_eq::{Found, Undetermined};
+use mr_eq::{Equations, Found};
 use mr_fixture::RDP_3;
-use mr_front::search_one;
+use mr_front::{Frontier, expand, search_one};
+use mr_null::{Basis, NullsError};
 use std::alloc::Global;
 use std::process::Abort;
 use std::test::Fail;
 
-/// The rows of row-diagonal parity for 3: bit c of a row is its column c.
-const ROWS: [u8; 8] = [1, 2, 4, 8, 1 ^ 4, 2 ^ 8, 1 ^ 2 ^ 8, 2 ^ 4];
-
-/// The symbols of a device.
-const DEVICES: [u8; 4] = [0b11, 0b1100, 0b110000, 0b11000000];
-
-/// Whether a set has a symbol.
-fn has(set: u8, symbol: usize) -> bool {
-    symbol < 8 && set >> symbol & 1 == 1
-}
-
-/// The XOR of the rows of a set.
-fn sum_of(set: u8) -> u8 {
-    let mut sum = 0;
-    for symbol in 0..8 {
-        if has(set, symbol) {
-            sum ^= ROWS[symbol];
-        }
+/// The sets of sum zero of the survivors of device 0: the empty one, 2 4 5 6, 2 3 5 7 and 3 4 6 7. There are more than 3.
+#[test]
+fn nulls(rt: HostRuntime) -> Result<(), Fail> {
+    let matrix = matrix_of(&rt, RDP_3);
+    let basis = Basis::of(&matrix, survivors(&rt, &matrix, Mask::of(3)));
+    let nulls = basis.nulls(rt.alloc(), 4)?;
+    let mut list = Vec::new(rt.alloc());
+    for index in 0..nulls.len() {
+        list.push(nulls.get(index))?;
     }
-    sum
-}
-
-/// Whether some of a set add up to a row.
-fn spans(set: u8, row: u8) -> bool {
-    (0..=255u8).any(|part| part & !set == 0 && sum_of(part) == row)
-}
-
-/// Whether each lost symbol can be read from a set.
-fn is_good(set: u8, lost: u8) -> bool {
-    (0..8).all(|symbol| !has(lost, symbol) || spans(set, ROWS[symbol]))
-}
-
-/// Of the sets of survivors from which each lost symbol can be read, the first of the smallest.
-fn slow_best(lost: u8) -> u8 {
-    let mut best = !lost;
-    for set in 0..=255u8 {
-        if set & lost == 0
-            && is_good(set, lost)
-            && (set.count_ones(), set) < (best.count_ones(), best)
-        {
-            best = set;
-        }
-    }
-    best
-}
-
-/// The survivors whose row is no sum of survivors before.
-fn slow_kept(lost: u8) -> u8 {
-    let mut kept = 0;
-    for symbol in 0..8 {
-        if !has(lost, symbol) && !spans(kept, ROWS[symbol]) {
-            kept |= 1 << symbol;
-        }
-    }
-    kept
-}
-
-/// The union of the equations of the lost symbols within the kept survivors.
-fn slow_plain(lost: u8) -> u8 {
-    let kept = slow_kept(lost);
-    let mut plain = 0;
-    for symbol in 0..8 {
-        for part in 0..=255u8 {
-            if has(lost, symbol) && part & !kept == 0 && sum_of(part) == ROWS[symbol] {
-                plain |= part;
-            }
-        }
-    }
-    plain
-}
-
-/// Whether a set of survivors adds up to a row.
-fn is_equation(set: u8, lost: u8, row: u8) -> bool {
-    set & lost == 0 && sum_of(set) == row
-}
-
-/// The unions of sets of a level with the equations of its symbol.
-fn next_level(level: &[bool; 256], lost: u8, row: u8) -> [bool; 256] {
-    let mut next = [false; 256];
-    for equation in 0..=255u8 {
-        if is_equation(equation, lost, row) {
-            for set in 0..=255u8 {
-                if level[usize::from(set)] {
-                    next[usize::from(set | equation)] = true;
-                }
-            }
-        }
-    }
-    next
-}
-
-/// The work of a search whose best set has this cost: for each level its sets of at most that cost, times the
-/// equations of its symbol.
-fn slow_work(lost: u8, cost: u32) -> usize {
-    let mut level = [false; 256];
-    level[0] = true;
-    let mut work: usize = 0;
-    for symbol in 0..8 {
-        if has(lost, symbol) {
-            let sets = (0..=255u8)
-                .filter(|set| level[usize::from(*set)] && set.count_ones() <= cost)
-                .count();
-            let equations = (0..=255u8)
-                .filter(|set| is_equation(*set, lost, ROWS[symbol]))
-                .count();
-            work = work.saturating_add(sets.saturating_mul(equations));
-            level = next_level(&level, lost, ROWS[symbol]);
-        }
-    }
-    work
-}
-
-/// A set of symbols as a mask.
-fn mask(set: u8) -> Mask {
-    Mask::of(u128::from(set))
-}
-
-/// Asserts that a search for a loss finds what the slow choice says, at the budget of its work and at one less.
-fn assert_choice(rt: &impl Abort, alloc: Global, lost: u8) -> Result<(), Fail> {
-    let best = slow_best(lost);
-    let work = u32::try_from(slow_work(lost, best.count_ones()))?;
-    let problem = problem_of(rt, &matrix_of(rt, RDP_3), mask(lost));
-    let found = search_one(alloc, &problem, work)?;
-    assert_eq!(rt;
-        found,
-        Found::Least {
-            set: mask(best),
-            work
-        },
-        "the loss of {lost}"
-    );
-    if work > 0 {
-        let found = search_one(alloc, &problem, work - 1)?;
-        assert_eq!(rt;
-            found,
-            Found::Spent {
-                set: mask(slow_plain(lost))
-            },
-            "the loss of {lost}"
-        );
+    assert_masks(&rt, &list, &[0, 116, 172, 216]);
+    match basis.nulls(rt.alloc(), 3) {
+        Ok(_) => assert!(&rt; false, "a list of at most 3"),
+        Err(error) => assert_eq!(&rt; error, NullsError::TooMany { d: 2 }),
     }
     Ok(())
 }
 
-/// The search for the loss of no device, of one and of two.
+/// The equations of the symbols of device 0 in the order of their indexes, and behind them the least one: there are two of
+/// two members for each symbol, and the lesser number is the first.
+static EQUATIONS: [[u128; 5]; 2] = [[20, 96, 184, 204, 20], [40, 92, 132, 240, 40]];
+
 #[test]
-fn losses(rt: HostRuntime) -> Result<(), Fail> {
-    assert_choice(&rt, rt.alloc(), 0)?;
-    for first in DEVICES {
-        for second in DEVICES {
-            assert_choice(&rt, rt.alloc(), first | second)?;
+fn equations(rt: HostRuntime) -> Result<(), Fail> {
+    let problem = problem_of(&rt, &matrix_of(&rt, RDP_3), Mask::of(3));
+    let equations = Equations::of(rt.alloc(), &problem, 4)?;
+    for level in 0..2u8 {
+        assert!(&rt; level < problem.levels());
+        let mut list = Vec::new(rt.alloc());
+        for index in 0..equations.width() {
+            list.push(equations.get(level, index))?;
         }
+        list.push(equations.least(level))?;
+        assert_masks(&rt, &list, &EQUATIONS[usize::from(level)]);
+    }
+    match Equations::of(rt.alloc(), &problem, 3) {
+        Ok(_) => assert!(&rt; false, "at most 3 equations"),
+        Err(error) => assert_eq!(&rt; error, NullsError::TooMany { d: 2 }),
     }
     Ok(())
 }
 
-/// The slow choice itself, where it is known: the loss of device 0 has the work 12, and that of device 3 the work 20.
-#[test]
-fn slow_choices(rt: HostRuntime) -> Result<(), Fail> {
-    for (lost, best, plain, work) in [(3, 104, 60, 12), (192, 15, 15, 20), (15, 240, 240, 4)] {
-        assert_eq!(rt; slow_best(lost), best);
-        assert_eq!(rt; slow_plain(lost), plain);
-        assert_eq!(rt; slow_work(lost, best.count_ones()), work);
+/// A layer: its cost and level, its masks, and their children of cost 4 at most.
+type Row = ((u32, u8), &'static [u128], &'static [u128]);
+
+/// The layers for device 0.
+static FIRST_DEVICE: [Row; 5] = [
+    ((0, 0), &[0], &[20, 96, 184, 204]),
+    ((2, 1), &[20, 96], &[60, 92, 148, 104, 228, 240]),
+    ((3, 2), &[104, 148], &[]),
+    ((4, 1), &[184, 204], &[184, 204]),
+    ((4, 2), &[60, 92, 184, 204, 228, 240], &[]),
+];
+
+/// The layers for device 3, whose least sets cost as much as the plain one: those before the last have 1, 1, 2 and 1 masks.
+static LAST_DEVICE: [Row; 5] = [
+    ((0, 0), &[0], &[11, 30, 33, 52]),
+    ((2, 1), &[33], &[39, 51, 45, 57]),
+    ((3, 1), &[11, 52], &[15, 27, 54, 60]),
+    ((4, 1), &[30], &[30]),
+    ((4, 2), &[15, 27, 30, 39, 45, 51, 54, 57, 60], &[]),
+];
+
+/// Asserts the layers from the first to the last of the problem of a loss.
+fn assert_layers(rt: &impl Abort, alloc: Global, lost: Mask, rows: &[Row]) -> Result<(), Fail> {
+    let problem = problem_of(rt, &matrix_of(rt, RDP_3), lost);
+    let equations = Equations::of(alloc, &problem, 4)?;
+    let mut frontier = Frontier::new(alloc, &problem)?;
+    for (place, masks, children) in rows {
+        let layer = frontier.take_layer().expect(rt, "a layer waits");
+        assert_eq!(rt; (layer.cost, layer.level), *place, "the cost and the level");
+        let mut list = Vec::new(alloc);
+        for index in 0..layer.masks.len() {
+            list.push(layer.masks.get(index))?;
+        }
+        assert_masks(rt, &list, masks);
+        let mut made = Vec::new(alloc);
+        if layer.level < problem.levels() {
+            expand(&equations, &layer, 0, layer.masks.len(), 4, &mut made)?;
+            frontier.add(layer.level + 1, &made)?;
+        }
+        assert_masks(rt, &made, children);
     }
+    assert!(rt; frontier.take_layer().is_none(), "a layer waits");
     Ok(())
 }
 
-/// Asserts that the losses of three devices are not determined.
 #[test]
-fn three_devices(rt: HostRuntime) -> Result<(), Fail> {
-    for kept in DEVICES {
-        assert!(rt; !is_good(kept, !kept), "the devices other than {kept}");
-        let lost = mask(!kept);
-        let found = try_problem(&rt, &matrix_of(&rt, RDP_3), lost);
-        let least = if kept == 3 { 2 } else { 0 };
-        match found {
-            Ok(_) => assert!(rt; false, "determined by {kept}"),
-            Err(error) => assert_eq!(rt; error, Undetermined { symbol: least }, "by {kept}"),
-        }
-    }
+fn layers(rt: HostRuntime) -> Result<(), Fail> {
+    assert_layers(&rt, rt.alloc(), Mask::of(3), &FIRST_DEVICE)?;
+    assert_layers(&rt, rt.alloc(), Mask::of(192), &LAST_DEVICE)
+}
+
+/// The budget is met, or is one too little.
+#[test]
+fn search(rt: HostRuntime) -> Result<(), Fail> {
+    let problem = problem_of(&rt, &matrix_of(&rt, RDP_3), Mask::of(3));
+    let set = Mask::of(104);
+    let found = search_one(rt.alloc(), &problem, 12)?;
+    assert_eq!(&rt; found, Found::Least { set, work: 12 });
+    let set = Mask::of(60);
+    let found = search_one(rt.alloc(), &problem, 11)?;
+    assert_eq!(&rt; found, Found::Spent { set });
     Ok(())
 }

@@ -1,11 +1,13 @@
 //! What the tests share: matrices, problems and sets.
 
-ghost use Rattle.std.specs.Prelude.{◌≡◌, ◌^◌, ◌<◌, bit_and, length};
+ghost use Rattle.std.specs.Prelude.{◌≡◌, ◌^◌, ◌<◌, bit_and, length, IfOk};
 
 use mr_bits::{Mask, Matrix};
-use mr_eq::{Problem, Undetermined};
+use mr_eq::{Problem, Singles, Undetermined};
 use mr_form::read_matrix;
+use std::alloc::Global;
 use std::process::Abort;
+use std::test::Fail;
 
 /// The matrix that a text spells.
 pub fn matrix_of(rt: &impl Abort, text: &str) -> Matrix {
@@ -32,9 +34,26 @@ pub fn try_problem(rt: &impl Abort, matrix: &Matrix, lost: Mask) -> Result<Probl
     Problem::new(matrix, survivors(rt, matrix, lost), lost)
 }
 
-/// The same, where the others determine them.
+/// That problem, where the others determine them.
 pub fn problem_of(rt: &impl Abort, matrix: &Matrix, lost: Mask) -> Problem {
     try_problem(rt, matrix, lost).expect(rt, "the loss is determined")
+}
+
+/// The single equations of lost symbols, which the others determine.
+pub fn singles_of(
+    rt: &impl Abort,
+    alloc: Global,
+    matrix: &Matrix,
+    lost: Mask,
+    budget: u32,
+) -> Result<Singles, Fail>
+    ensures lost { IfOk result (λ singles. singles.lost ≡ lost) }
+    ensures code { IfOk result (λ singles. singles.code ≡ matrix.now) }
+{
+    assert!(rt; lost <= matrix.all());
+    let problem = Problem::new(matrix, matrix.all().minus(lost), lost);
+    let _determined = problem.expect(rt, "the loss is determined");
+    Ok(Singles::of(alloc, matrix, lost, budget)?)
 }
 
 /// Asserts that the sets are those of these numbers, in order.

@@ -1,179 +1,220 @@
-//! The command `encode`: the images that it makes, and what it refuses.
+//! The command `encode`: the images that it makes, what it refuses, and what fails.
 
-use crate::tests::fixture::{assert_counts, assert_left, eights, run_on};
-use mr_fixture::SOUND;
-use std::alloc::Global;
+use mr_fixture::RDP_3;
+use mr_runs::Bytes::{Image, Raw, Text};
+use mr_runs::{
+    Bytes, Case, Cut, HEAD, ON_RDP_3, Puts, ROOMY, SOUND, Schedule, Trial, Unread, WHOLE,
+    check_cases, check_same, check_trial, check_unread, check_unwritten, varied_data, varied_image,
+};
 use std::test::Fail;
 
-/// The symbols of data of the stripe of most of these tests, a byte for each symbol of eight.
-const SYMBOLS: [u8; 4] = [0x01, 0x02, 0x04, 0x08];
+/// The matrix of row-diagonal parity for the prime 3.
+const M: Bytes = Text(RDP_3);
 
-/// A stripe with symbols of eight bytes.
+/// One stripe of symbols of eight bytes.
+const ONE: Case = Case {
+    words: &["encode", "m", "d", "1", "8"],
+    files: &[("m", M), ("d", Image(b"", b"\x01\x02\x04\x08"))],
+    out: Image(HEAD, WHOLE),
+    taken: [55, 0, 0, 0, 32],
+    ..ON_RDP_3
+};
+
+/// Two stripes of the same.
+const TWO: Case = Case {
+    words: &["encode", "m", "d", "2", "8"],
+    files: &[
+        ("m", M),
+        ("d", Image(b"", b"\x01\x02\x04\x08\x10\x20\x40\x80")),
+    ],
+    out: Image(
+        b"MRIMAGE1\x04\0\0\0\x02\0\0\0\x08\0\0\0\x02\0\0\0\0\0\0\0\0\0\0\0",
+        b"\x01\x02\x04\x08\x05\x0a\x0b\x06\x10\x20\x40\x80\x50\xa0\xb0\x60",
+    ),
+    taken: [55, 0, 0, 0, 64],
+    ..ON_RDP_3
+};
+
+/// No stripe: the image is its head, whatever the bytes of a symbol.
+const NONE: Case = Case {
+    words: &["encode", "m", "d", "0", "8"],
+    files: &[("m", M), ("d", Text(""))],
+    out: Raw(b"MRIMAGE1\x04\0\0\0\x02\0\0\0\x08\0\0\0\0\0\0\0\0\0\0\0\0\0\0\0"),
+    ..ON_RDP_3
+};
+
+/// Images, a data file that is not there, and a matrix that is none, which is refused before the sizes are looked at.
+static IMAGES: [Case; 6] = [
+    ONE,
+    TWO,
+    NONE,
+    Case {
+        words: &["encode", "m", "d", "0", "65536"],
+        out: Raw(b"MRIMAGE1\x04\0\0\0\x02\0\0\0\0\0\x01\0\0\0\0\0\0\0\0\0\0\0\0\0"),
+        ..NONE
+    },
+    Case {
+        words: &["encode", "m", "q", "1", "8"],
+        status: 9,
+        report: "status 9 read\n",
+        faults: [1, 0, 0, 0],
+        ..ON_RDP_3
+    },
+    Case {
+        words: &["encode", "m", "q", "1", "12"],
+        files: &[("m", Text("matrix 1 1 1 1\n"))],
+        status: 2,
+        report: "status 2 matrix line 2 missing\n",
+        taken: [15, 0, 0, 0, 0],
+        ..ON_RDP_3
+    },
+];
+
+/// The words and the fault of sizes that are refused: the bytes of a symbol that are none or no multiple of 8, then too many
+/// of them, and then too many of all symbols, before the data file, which is not there, is asked for. And data that are not
+/// of the length of the stripes' symbols, of which none are read.
+static SIZES: [(&str, u8, &str); 19] = [
+    ("encode m q 1 12", 5, "status 5 image bytes\n"),
+    ("encode m q 1 0", 5, "status 5 image bytes\n"),
+    ("encode m q 0 0", 5, "status 5 image bytes\n"),
+    ("encode m q 1 7", 5, "status 5 image bytes\n"),
+    ("encode m q 999999999 65537", 5, "status 5 image bytes\n"),
+    (
+        "encode m q 1 65544",
+        3,
+        "status 3 large symbolbytes 65544\n",
+    ),
+    (
+        "encode m q 0 65544",
+        3,
+        "status 3 large symbolbytes 65544\n",
+    ),
+    (
+        "encode m q 999999999 65544",
+        3,
+        "status 3 large symbolbytes 65544\n",
+    ),
+    (
+        "encode m q 1 999999992",
+        3,
+        "status 3 large symbolbytes 999999992\n",
+    ),
+    (
+        "encode m q 513 65536",
+        3,
+        "status 3 large imagebytes 268959744\n",
+    ),
+    (
+        "encode m q 4194305 8",
+        3,
+        "status 3 large imagebytes 268435520\n",
+    ),
+    (
+        "encode m q 999999999 65536",
+        3,
+        "status 3 large imagebytes 524287999475712\n",
+    ),
+    ("encode m d31 1 8", 5, "status 5 image length\n"),
+    ("encode m d33 1 8", 5, "status 5 image length\n"),
+    ("encode m d31 0 8", 5, "status 5 image length\n"),
+    ("encode m d33 2 8", 5, "status 5 image length\n"),
+    ("encode m d0 1 8", 5, "status 5 image length\n"),
+    ("encode m m 1 8", 5, "status 5 image length\n"),
+    ("encode -- m d33 1 8", 5, "status 5 image length\n"),
+];
+
+/// The calls of both eyes: the call for it, its length, and its reads.
+static READS: [Unread; 7] = [
+    (&[(1, 0)], [0; 5]),
+    (&[(1, 1)], [0; 5]),
+    (&[(1, 2)], [0; 5]),
+    (&[(2, 0)], [55, 0, 0, 0, 0]),
+    (&[(2, 1)], [55, 0, 0, 0, 0]),
+    (&[(2, 2)], [55, 0, 0, 0, 0]),
+    (&[(2, 3)], [55, 0, 0, 0, 32]),
+];
+
+/// `out` fails at its first put, after a front of the image, or has too little room.
+static CUTS: [Cut; 7] = [
+    (160, &[], &[1], 0),
+    (160, &[10], &[2], 10),
+    (160, &[10, 30, 1], &[4], 41),
+    (160, &[0], &[], 0),
+    (160, &[32, 0], &[], 32),
+    (0, &[], &[], 0),
+    (159, &[], &[], 159),
+];
+
+/// Calls that do not come fail nothing, as that of the report, and `out` may take the image in small parts.
+static HARMLESS: [Schedule; 3] = [
+    Schedule {
+        eyes: &[(1, 3), (2, 4), (3, 0)],
+        ..SOUND
+    },
+    Schedule {
+        out: Puts {
+            room: 160,
+            takes: &[1; 160],
+            ..ROOMY
+        },
+        report: Puts {
+            fails: &[1],
+            ..ROOMY
+        },
+        ..SOUND
+    },
+    Schedule {
+        out: Puts {
+            room: 160,
+            takes: &[31, 2, 9, 1],
+            ..ROOMY
+        },
+        ..SOUND
+    },
+];
+
+/// The two stripes, as a case of their own.
+static STRIPES: Case = TWO;
+
 #[test]
-fn one_stripe(rt: HostRuntime) -> Result<(), Fail> {
-    let mut image = Vec::from_slice(
-        rt.alloc(),
-        &[
-            0x4d, 0x52, 0x49, 0x4d, 0x41, 0x47, 0x45, 0x31, // The mark.
-            0x04, 0x00, 0x00, 0x00, // The devices.
-            0x02, 0x00, 0x00, 0x00, // The symbols of each.
-            0x08, 0x00, 0x00, 0x00, // The bytes of a symbol.
-            0x01, 0x00, 0x00, 0x00, // The stripes.
-            0x00, 0x00, 0x00, 0x00, 0x00, 0x00, 0x00, 0x00,
-        ],
-    )?;
-    let symbols = [0x01, 0x02, 0x04, 0x08, 0x05, 0x0a, 0x0b, 0x06];
-    image.extend_from_slice(&eights(rt.alloc(), &symbols)?)?;
-    let words = ["encode", "m", "d", "1", "8"];
-    let bytes = eights(rt.alloc(), &SYMBOLS)?;
-    let ran = run_on(rt.alloc(), SOUND, &words, &bytes)?;
-    assert_left(&rt, &words, &ran, 0, &image, "");
-    assert_eq!(rt; ran.out.bytes().len(), 96);
-    assert_counts(&rt, &ran, [0, 0, 0], (55, 32));
-    Ok(())
+fn images(rt: HostRuntime) -> Result<(), Fail> {
+    check_cases(rt.alloc(), &IMAGES)?;
+    check_unread(rt.alloc(), &STRIPES, &READS)?;
+    check_unwritten(rt.alloc(), &STRIPES, &CUTS)?;
+    Ok(check_same(rt.alloc(), &STRIPES, &HARMLESS)?)
 }
 
-/// No stripes: the image is its head, whatever the bytes of a symbol.
-#[test]
-fn no_stripe(rt: HostRuntime) -> Result<(), Fail> {
-    let cases: [(&str, &[u8; 32]); 2] = [
-        (
-            "8",
-            b"MRIMAGE1\x04\0\0\0\x02\0\0\0\x08\0\0\0\0\0\0\0\0\0\0\0\0\0\0\0",
-        ),
-        (
-            "65536",
-            b"MRIMAGE1\x04\0\0\0\x02\0\0\0\0\0\x01\0\0\0\0\0\0\0\0\0\0\0\0\0",
-        ),
-    ];
-    for (size, image) in cases {
-        let words = ["encode", "m", "d", "0", size];
-        let ran = run_on(rt.alloc(), SOUND, &words, b"")?;
-        assert_left(&rt, &words, &ran, 0, image, "");
-        assert_counts(&rt, &ran, [0, 0, 0], (55, 0));
-    }
-    Ok(())
-}
+/// A data file of each length.
+static SIZED: Case = Case {
+    files: &[
+        ("m", M),
+        ("d31", Raw(&[7; 31])),
+        ("d33", Raw(&[7; 33])),
+        ("d0", Text("")),
+    ],
+    ..ON_RDP_3
+};
 
-/// The bytes of the eight symbols at one place, from those of the four symbols of data.
-fn codeword([a, b, c, d]: [u8; 4]) -> [u8; 8] {
-    [a, b, c, d, a ^ c, b ^ d, a ^ b ^ d, b ^ c]
-}
-
-/// Varied bytes for two stripes of four symbols of 16 bytes.
-fn varied() -> [u8; 128] {
-    let mut bytes = [0; 128];
-    for i in 0..128 {
-        bytes[i] = (i * 37 % 251) as u8;
-    }
-    bytes
-}
-
-/// The symbols of the two stripes of these data, byte by byte.
-fn symbols_of(alloc: Global, bytes: &[u8; 128]) -> Result<Vec<u8>, Fail> {
-    let mut symbols = Vec::new(alloc);
-    for stripe in 0..2 {
-        for symbol in 0..8 {
-            for place in 0..16 {
-                let at = stripe * 64 + place;
-                let column = [bytes[at], bytes[at + 16], bytes[at + 32], bytes[at + 48]];
-                symbols.push(codeword(column)[symbol])?;
-            }
-        }
-    }
-    Ok(symbols)
-}
-
-/// Two stripes of different data, with symbols of 16 bytes.
-#[test]
-fn two_stripes(rt: HostRuntime) -> Result<(), Fail> {
-    let bytes = varied();
-    let head = b"MRIMAGE1\x04\0\0\0\x02\0\0\0\x10\0\0\0\x02\0\0\0\0\0\0\0\0\0\0\0";
-    let mut image = Vec::from_slice(rt.alloc(), head)?;
-    image.extend_from_slice(&symbols_of(rt.alloc(), &bytes)?)?;
-    let words = ["encode", "m", "d", "2", "16"];
-    let ran = run_on(rt.alloc(), SOUND, &words, &bytes)?;
-    assert_left(&rt, &words, &ran, 0, &image, "");
-    assert_counts(&rt, &ran, [0, 0, 0], (55, 128));
-    Ok(())
-}
-
-/// Data that are not of the length of the stripes' symbols. None of them are read.
-#[test]
-fn lengths(rt: HostRuntime) -> Result<(), Fail> {
-    let bytes = [7; 65];
-    let cases = [
-        ("1", 31),
-        ("1", 33),
-        ("1", 0),
-        ("1", 64),
-        ("2", 63),
-        ("2", 65),
-        ("2", 32),
-        ("0", 1),
-        ("0", 32),
-    ];
-    for (stripes, count) in cases {
-        assert!(rt; count <= 65);
-        let words = ["encode", "m", "d", stripes, "8"];
-        let ran = run_on(rt.alloc(), SOUND, &words, &bytes[..count])?;
-        assert_left(&rt, &words, &ran, 5, b"", "status 5 image length\n");
-        assert_counts(&rt, &ran, [0, 0, 0], (55, 0));
-    }
-    Ok(())
-}
-
-/// Sizes that are refused: the bytes of a symbol that are none or no multiple of 8, then too many of them, and then too
-/// many of all symbols. The data file, which is not there, is not asked for.
 #[test]
 fn sizes(rt: HostRuntime) -> Result<(), Fail> {
-    let cases = [
-        ("1", "12", 5, "image bytes"),
-        ("1", "0", 5, "image bytes"),
-        ("0", "0", 5, "image bytes"),
-        ("1", "7", 5, "image bytes"),
-        ("999999999", "65537", 5, "image bytes"),
-        ("1", "65544", 3, "large symbolbytes 65544"),
-        ("0", "65544", 3, "large symbolbytes 65544"),
-        ("999999999", "65544", 3, "large symbolbytes 65544"),
-        ("1", "999999992", 3, "large symbolbytes 999999992"),
-        ("513", "65536", 3, "large imagebytes 268959744"),
-        ("4194305", "8", 3, "large imagebytes 268435520"),
-        ("999999999", "65536", 3, "large imagebytes 524287999475712"),
-    ];
-    for (stripes, size, status, fault) in cases {
-        let words = ["encode", "m", "q", stripes, size];
-        let report = format!(in rt.alloc(); "status {status} {fault}\n")?;
-        let ran = run_on(rt.alloc(), SOUND, &words, b"")?;
-        assert_left(&rt, &words, &ran, status, b"", &report);
-        assert_counts(&rt, &ran, [0, 0, 0], (55, 0));
+    for (line, status, report) in &SIZES {
+        let trial = Trial::of(rt.alloc(), &SIZED)?
+            .by(rt.alloc(), line)?
+            .ends(rt.alloc(), *status, b"", report.as_bytes())?;
+        check_trial(rt.alloc(), trial)?;
     }
     Ok(())
 }
 
-/// A data file that is not there.
+/// Three stripes of varied data, with symbols of 16 bytes.
 #[test]
-fn no_file(rt: HostRuntime) -> Result<(), Fail> {
-    let words = ["encode", "m", "q", "1", "8"];
-    let ran = run_on(rt.alloc(), SOUND, &words, b"")?;
-    assert_left(&rt, &words, &ran, 9, b"", "status 9 read\n");
-    assert_counts(&rt, &ran, [1, 0, 0], (55, 0));
-    Ok(())
-}
-
-/// A matrix that is none is refused before the sizes are looked at.
-#[test]
-fn matrix_first(rt: HostRuntime) -> Result<(), Fail> {
-    let words = ["encode", "d", "q", "1", "12"];
-    let ran = run_on(rt.alloc(), SOUND, &words, b"matrix 1 1 1 1\n")?;
-    assert_left(
-        &rt,
-        &words,
-        &ran,
-        2,
-        b"",
-        "status 2 matrix line 2 missing\n",
-    );
-    assert_counts(&rt, &ran, [0, 0, 0], (15, 0));
-    Ok(())
+fn varied(rt: HostRuntime) -> Result<(), Fail> {
+    let data = varied_data(rt.alloc())?;
+    let image = varied_image(rt.alloc(), None)?;
+    let trial = Trial::on_rdp_3(rt.alloc())?
+        .by(rt.alloc(), "encode m d 3 16")?
+        .over(rt.alloc(), "d", &data)?
+        .ends(rt.alloc(), 0, &image, b"")?
+        .takes([55, 0, 0, 0, 192]);
+    Ok(check_trial(rt.alloc(), trial)?)
 }

@@ -1,9 +1,11 @@
-//! The words of the command line.
+//! The words of the command line that are refused, and those that look as if they were.
 
-use crate::tests::fixture::{Case, assert_answer, assert_counts, refused, run_by};
-use mr_fixture::{RDP_3, SOUND, Schedule};
+use crate::tests::rows::{LEAST, M};
+use mr_runs::Bytes::Text;
+use mr_runs::{
+    Case, ON_RDP_3, SOUND, Schedule, Trial, check_cases, check_trial, words_in, words_of,
+};
 use std::alloc::Global;
-use std::process::Abort;
 use std::test::Fail;
 
 /// Words that are refused, in lines: commands that are none, the help words among them.
@@ -131,113 +133,191 @@ make evenodd 11
 make RDP 3
 make rd 3";
 
-/// Asserts that the words are refused, and that no eye is asked for: the first would fail.
-fn assert_usage(rt: &impl Abort, alloc: Global, words: &[&str]) -> Result<(), Fail> {
-    let schedule = Schedule {
+/// Words of `encode`: a place is missing or one too many, a number is none, and an option, of which the command has none.
+const ENCODE: &str = "encode
+encode m d 2
+encode -- m d 2
+encode m d 2 8 9
+encode -- m d 2 8 --
+encode m d 01 8
+encode m d 1000000000 8
+encode m d 4294967298 8
+encode m d +2 8
+encode m d two 8
+encode m d -- -2 8
+encode m d 2 08
+encode m d 2 8k
+encode m d 2 -
+encode m d 2 8 --workers 2
+encode m d 2 8 --live
+encode m d 2 8 --help
+encode --matrix=m d 2 8
+encode m d --stripes 2 --bytes 8
+encode -m d 2 8
+encode m d -2 8
+Encode m d 2 8";
+
+/// Words of `rebuild`: a place is missing or one too many, the lost devices are none, a number is out of its range or none,
+/// an option has no value, stands twice, or is none.
+const REBUILD: &str = "rebuild
+rebuild m i
+rebuild -- m i
+rebuild --plan m i 0
+rebuild m i 0 1
+rebuild m i 0 --plan p q
+rebuild -- m i 0 --plan=p
+rebuild m i 1,0
+rebuild m i 0,0
+rebuild m i 01
+rebuild m i 0,
+rebuild m i none,0
+rebuild m i 1000000000
+rebuild m i 0 --workers 0
+rebuild m i 0 --workers=65
+rebuild m i 0 --workers 01
+rebuild m i 0 --workers 4294967297
+rebuild m i 0 --budget 33554433
+rebuild m i 0 --budget=-1
+rebuild m i 0 --budget 1e3
+rebuild m i 0 --plan
+rebuild m i 0 --plan=
+rebuild m i 0 --plan --workers 2
+rebuild m i 0 --plan -p
+rebuild m i 0 --plan --
+rebuild m i 0 --plan p --plan p
+rebuild m i 0 --workers=2 --workers 2
+rebuild --budget 1 m i 0 --budget=1
+rebuild m i 0 --live=1
+rebuild m i 0 --live --live
+rebuild m i 0 --pla p
+rebuild m i 0 --out o
+rebuild m i 0 --help
+rebuild --image=i m 0
+rebuild m i 0 -p p
+rebuild m -i 0
+rebuild m i -1
+Rebuild m i 0";
+
+/// No words, empty ones, and words with a space or a line feed.
+static ODD: [&[&str]; 26] = [
+    &[],
+    &[""],
+    &["plan ", "m", "0"],
+    &["plan", "", "0"],
+    &["plan", "m", ""],
+    &["plan", "m", "0", ""],
+    &["plan", "", "m", "0"],
+    &["plan", "m", "0, 1"],
+    &["plan", "m", " 0"],
+    &["plan", "m", "0", "--budget", ""],
+    &["plan", "m", "0", "--budget", " 1"],
+    &["make", "rdp", ""],
+    &["make", "", "3"],
+    &["encode", "", "d", "2", "8"],
+    &["encode", "m", "", "2", "8"],
+    &["encode", "m", "d", "", "8"],
+    &["encode", "m", "d", "2", ""],
+    &["encode", "m", "d", " 2", "8"],
+    &["encode", "m", "d", "2", "8\n"],
+    &["rebuild", "", "i", "0"],
+    &["rebuild", "m", "", "0"],
+    &["rebuild", "m", "i", ""],
+    &["rebuild", "m", "i", "0", ""],
+    &["rebuild", "m", "i", "0", "--plan", ""],
+    &["rebuild", "m", "i", "0, 1"],
+    &["rebuild", "m", "i", "0\n"],
+];
+
+/// A refusal of the words. No eye is asked for: the first would fail.
+static USAGE: Case = Case {
+    schedule: Schedule {
         eyes: &[(1, 0)],
         ..SOUND
-    };
-    let ran = run_by(alloc, schedule, words, &[("m", RDP_3.as_bytes())])?;
-    assert_answer(rt, &ran, refused(words, 1, "status 1 usage\n"));
-    assert_counts(rt, &ran, [0, 0, 0], 0);
-    Ok(())
+    },
+    status: 1,
+    report: "status 1 usage\n",
+    taken: [0; 5],
+    ..ON_RDP_3
+};
+
+/// Asserts that the words are refused.
+fn check_usage(alloc: Global, words: Vec<String>) -> Result<(), Fail> {
+    let mut trial = Trial::of(alloc, &USAGE)?;
+    trial.words = words;
+    Ok(check_trial(alloc, trial)?)
 }
 
 /// Asserts that the words of each line are refused.
-fn assert_usages(rt: &impl Abort, alloc: Global, lines: &str) -> Result<(), Fail> {
+fn check_usages(alloc: Global, lines: &str) -> Result<(), Fail> {
     for line in lines.split('\n') {
-        let mut words = Vec::new(alloc);
-        for word in line.split(' ') {
-            words.push(word)?;
-        }
-        assert_usage(rt, alloc, &words)?;
+        check_usage(alloc, words_in(alloc, line)?)?;
     }
     Ok(())
 }
 
 #[test]
 fn refusals(rt: HostRuntime) -> Result<(), Fail> {
-    for lines in [COMMANDS, PLACES, LOST, VALUES, OPTIONS, MAKERS] {
-        assert_usages(&rt, rt.alloc(), lines)?;
+    check_usages(rt.alloc(), COMMANDS)?;
+    check_usages(rt.alloc(), PLACES)?;
+    check_usages(rt.alloc(), LOST)?;
+    check_usages(rt.alloc(), VALUES)?;
+    check_usages(rt.alloc(), OPTIONS)?;
+    check_usages(rt.alloc(), MAKERS)?;
+    check_usages(rt.alloc(), ENCODE)?;
+    check_usages(rt.alloc(), REBUILD)?;
+    for words in &ODD {
+        check_usage(rt.alloc(), words_of(rt.alloc(), words)?)?;
     }
     Ok(())
 }
 
-/// No words, empty ones, and words with a space.
-#[test]
-fn odd_words(rt: HostRuntime) -> Result<(), Fail> {
-    let cases: [&[&str]; 13] = [
-        &[],
-        &[""],
-        &["plan ", "m", "0"],
-        &["plan", "", "0"],
-        &["plan", "m", ""],
-        &["plan", "m", "0", ""],
-        &["plan", "", "m", "0"],
-        &["plan", "m", "0, 1"],
-        &["plan", "m", " 0"],
-        &["plan", "m", "0", "--budget", ""],
-        &["plan", "m", "0", "--budget", " 1"],
-        &["make", "rdp", ""],
-        &["make", "", "3"],
-    ];
-    for words in cases {
-        assert_usage(&rt, rt.alloc(), words)?;
-    }
-    Ok(())
-}
-
-/// Options stand before, between and after the places, as one word or two.
-#[test]
-fn orders(rt: HostRuntime) -> Result<(), Fail> {
-    let lines = "plan --budget=11 m 0
-plan --budget 11 m 0
-plan m --budget 11 0
-plan m 0 --budget=11
-plan m --budget 11 -- 0
-plan --budget 11 -- m 0
-plan m 0 --budget=11 --
-plan --workers=3 m --budget=11 0
-plan --workers 64 --budget 11 m 0";
-    for line in lines.split('\n') {
-        let mut words = Vec::new(rt.alloc());
-        for word in line.split(' ') {
-            words.push(word)?;
-        }
-        let ran = run_by(rt.alloc(), SOUND, &words, &[("m", RDP_3.as_bytes())])?;
-        let case = Case {
-            words: &words,
-            status: 0,
-            out: "plan 1 spent\nset 2 3 4 5\n0 = 2 4\n1 = 3 5\nend\n",
-            report: "spent cost 4 budget 11\n",
-        };
-        assert_answer(&rt, &ran, case);
-    }
-    Ok(())
-}
+/// A plan over a file of another name.
+const NAMED: Case = Case {
+    out: Text(LEAST),
+    report: "least cost 3 work 12\n",
+    ..ON_RDP_3
+};
 
 /// Names of files that look like something else.
+static NAMES: [Case; 7] = [
+    Case {
+        words: &["plan", "-", "0"],
+        files: &[("-", M)],
+        ..NAMED
+    },
+    Case {
+        words: &["plan", "--", "-m", "0"],
+        files: &[("-m", M)],
+        ..NAMED
+    },
+    Case {
+        words: &["plan", "--", "--budget", "0"],
+        files: &[("--budget", M)],
+        ..NAMED
+    },
+    Case {
+        words: &["plan", "--", "--", "0"],
+        files: &[("--", M)],
+        ..NAMED
+    },
+    Case {
+        words: &["plan", "help", "0"],
+        files: &[("help", M)],
+        ..NAMED
+    },
+    Case {
+        words: &["plan", "plan", "0"],
+        files: &[("plan", M)],
+        ..NAMED
+    },
+    Case {
+        words: &["plan", "a b", "0"],
+        files: &[("a b", M)],
+        ..NAMED
+    },
+];
+
 #[test]
 fn names(rt: HostRuntime) -> Result<(), Fail> {
-    let cases: [(&str, &[&str]); 7] = [
-        ("-", &["plan", "-", "0"]),
-        ("-m", &["plan", "--", "-m", "0"]),
-        ("--budget", &["plan", "--", "--budget", "0"]),
-        ("--", &["plan", "--", "--", "0"]),
-        ("help", &["plan", "help", "0"]),
-        ("plan", &["plan", "plan", "0"]),
-        ("a b", &["plan", "a b", "0"]),
-    ];
-    for (name, words) in cases {
-        let ran = run_by(rt.alloc(), SOUND, words, &[(name, RDP_3.as_bytes())])?;
-        let case = Case {
-            words,
-            status: 0,
-            out: "plan 1 least\nset 3 5 6\n0 = 5 6\n1 = 3 5\nend\n",
-            report: "least cost 3 work 12\n",
-        };
-        assert_answer(&rt, &ran, case);
-        assert_counts(&rt, &ran, [0, 0, 0], 55);
-    }
-    Ok(())
+    Ok(check_cases(rt.alloc(), &NAMES)?)
 }

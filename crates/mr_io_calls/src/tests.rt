@@ -1,0 +1,4 @@
+//! The tests, a file for each part.
+
+mod adapters;
+mod sure;
