@@ -2,6 +2,7 @@
 # Times `encode` of an image of about 98 MB (RDP 5, 1,000 stripes of 4,096-byte symbols) on the proved program, by turns with
 # `cp` of the image into a file, and prints the least times and their ratio.
 # Usage: bench/encode.sh [RUNS]; build the program first, by ./minread or by rt run in crates/minread.
+# shellcheck source=bench/images.sh
 . "$(dirname "${BASH_SOURCE[0]}")/images.sh"
 stripes=1000
 bytes=4096

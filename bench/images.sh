@@ -1,3 +1,4 @@
+# shellcheck shell=bash disable=SC2034
 # What the benches of images share; they source it. Large pages are asked for as ./minread does it: GLIBC_TUNABLES= before
 # the command runs a bench without them.
 set -eu

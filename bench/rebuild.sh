@@ -3,6 +3,7 @@
 # program and one worker, by turns with `cp` of the image into a file and a read of the 49 MB that the plan reads, and
 # prints the least times and their ratio. The image is made by `encode`, and device 0 is overwritten.
 # Usage: bench/rebuild.sh [RUNS]; build the program first, by ./minread or by rt run in crates/minread. It needs python3.
+# shellcheck source=bench/images.sh
 . "$(dirname "${BASH_SOURCE[0]}")/images.sh"
 stripes=1000
 bytes=4096

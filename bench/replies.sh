@@ -2,13 +2,18 @@
 # Times the replies to a script on the proved program: an image of RDP 5 with 1,000 stripes of 4,096-byte symbols and 16,384
 # asks, so 64 MiB of replies in 128 MiB of lines. By turns it runs `rebuild` without and with the script, the report into a
 # file, and writes as many bytes by `head`. It prints the least times, and the ratio of what the replies add to the writing.
-# A second script has 131,072 lines for an image of 8-byte symbols.
+# A second script has 131,072 lines for an image of 8-byte symbols; its asks are all of lost symbols, so nothing is read for
+# them.
 # Usage: bench/replies.sh [RUNS]; build the program first, by ./minread or by rt run in crates/minread.
+# shellcheck source=bench/images.sh
 . "$(dirname "${BASH_SOURCE[0]}")/images.sh"
 
-# ASKS STRIPES: asks that go through the stripes and the symbols
+# the symbols of device 0, which is lost
+lost=4
+
+# ASKS STRIPES SYMBOLS: asks that go through the stripes and the first so many symbols
 script() {
-  awk -v asks="$1" -v stripes="$2" -v symbols="$symbols" 'BEGIN { for (k = 0; k < asks; k++) printf "%d %d\n", (k * 7) % stripes, k % symbols }'
+  awk -v asks="$1" -v stripes="$2" -v symbols="$3" 'BEGIN { for (k = 0; k < asks; k++) printf "%d %d\n", (k * 7) % stripes, k % symbols }'
 }
 
 # NAME ASKS: a line of the times for the image and the script NAME
@@ -25,8 +30,8 @@ measure() {
 }
 
 image large 1000 4096
-script 16384 1000 >"$folder/large.script"
+script 16384 1000 "$symbols" >"$folder/large.script"
 measure large 16384
 image small 1000 8
-script 131072 1000 >"$folder/small.script"
+script 131072 1000 "$lost" >"$folder/small.script"
 measure small 131072
