@@ -1,5 +1,5 @@
 -- Bytes taken, added up by duty.
-use Rattle.std.specs.Prelude.{ℕ, ◌+◌, List, [], ◌∷◌}
+use Rattle.std.specs.Prelude.{ℕ, ◌+◌, ◌≤◌, List, [], ◌∷◌}
 use Rattle.mr_io.specs.Counts.{counted}
 use Rattle.mr_io.specs.Sights.{Sight}
 use Rattle.mr_io.specs.declared.duty.Duty.{Duty}
@@ -42,3 +42,27 @@ grown old more = record {
 abbrev pub taken_by : List Sight → Totals
 taken_by [] = no_bytes
 taken_by (sight ∷ sights) = added (bytes_of sight.duty sight.taken) (taken_by sights)
+
+-- So many bytes for each of these duties.
+abbrev pub bytes_for : (Duty → ℕ) → List Duty → Totals
+bytes_for count [] = no_bytes
+bytes_for count (duty ∷ duties) = added (bytes_of duty (count duty)) (bytes_for count duties)
+
+-- These totals stand between those after the least and those after the most bytes of each duty. Where
+-- these are the same for a duty, its total is exact.
+pub record GrewWithin (old new least most : Totals) : Type 0 where
+  pub text_least : counted old.text least.text ≤ new.text
+  pub text_most : new.text ≤ counted old.text most.text
+  pub head_least : counted old.head least.head ≤ new.head
+  pub head_most : new.head ≤ counted old.head most.head
+  pub mend_least : counted old.mend least.mend ≤ new.mend
+  pub mend_most : new.mend ≤ counted old.mend most.mend
+  pub live_least : counted old.live least.live ≤ new.live
+  pub live_most : new.live ≤ counted old.live most.live
+  pub copy_least : counted old.copy least.copy ≤ new.copy
+  pub copy_most : new.copy ≤ counted old.copy most.copy
+
+-- Whatever totals these bytes are added to, they then stand between those after the least and those
+-- after the most.
+abbrev pub TakesWithin : Totals → Totals → Totals → Type 0
+TakesWithin taken least most = (old : Totals) → GrewWithin old (grown old taken) least most

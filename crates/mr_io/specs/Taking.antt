@@ -20,6 +20,7 @@ abbrev pub TakesPart : Option Held → Option Held → List ℕ → Type 0
 TakesPart old new bytes = (count : ℕ) × (count < length bytes) × Takes old new (take count bytes)
 
 -- A call puts these bytes: all of them, or a part where it fails.
-pub record Puts {T E : Type 0} (old new : Option Held) (result : Result T E) (bytes : List ℕ) : Type 0 where
+pub record Puts {T E : Type 0} (old new : Option Held) (result : Result T E) (bytes : List ℕ)
+    : Type 0 where
   pub ok : OnOk result (Takes old new bytes)
   pub err : OnErr result (TakesPart old new bytes)

@@ -20,6 +20,10 @@ told_giving name duty told = record told {
   lent = told.lent + 1;
 }
 
+-- After these eyes were asked for, and so many lent.
+abbrev pub told_lending : List Asked → ℕ → Told → Told
+told_lending eyes lent told = record told { asked = told.asked ++ eyes; lent = told.lent + lent }
+
 -- After an eye was taken back.
 abbrev pub told_retiring : Told → Told
 told_retiring told = record told { lent = told.lent - 1 }
@@ -33,3 +37,9 @@ pub record AsksFront (told : Told) (new : Option Told) (eyes : List Asked) : Typ
   pub count : ℕ
   pub within : count ≤ length eyes
   pub asked : new ≡ Some (told_asking (take count eyes) told)
+
+-- A front of these eyes was asked for besides, and so many were lent; nothing else of it changed.
+pub record LendsFront (told : Told) (new : Option Told) (eyes : List Asked) (lent : ℕ) : Type 0 where
+  pub count : ℕ
+  pub within : count ≤ length eyes
+  pub asked : new ≡ Some (told_lending (take count eyes) lent told)

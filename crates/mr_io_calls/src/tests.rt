@@ -1,4 +1,5 @@
 //! The tests, a file for each part.
 
 mod adapters;
+mod gates;
 mod sure;
