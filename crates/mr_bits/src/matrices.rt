@@ -1,5 +1,6 @@
 ghost use Rattle.std.specs.Prelude.{◌≡◌, ℕ, ◌-◌, ◌*◌, ◌/◌, ◌^◌, ◌<◌, ◌≤◌, length, slice_index, All};
 ghost use Rattle.mr_model.specs.Code.{code_of, priced_code, dimensions, row, row_sum, cost, device_symbols, most_symbols};
+ghost use Rattle.mr_model.specs.Rotations.{rotated};
 ghost use Rattle.mr_bits.specs.Matrices.{padded, greatest_cost, IsMatrixCode, IsPriceList};
 
 use crate::masks::Mask;
@@ -7,7 +8,7 @@ use crate::shapes::Shape;
 use std::marker::Model;
 
 /// The most symbols that a matrix may have. It has no more devices.
-const ROOM: usize = 128;
+pub const MOST_SYMBOLS: usize = 128;
 
 /// The greatest price of a device.
 pub const GREATEST_PRICE: u32 = 1000;
@@ -17,8 +18,8 @@ pub const GREATEST_PRICE: u32 = 1000;
 #[derive(Clone, Copy, PartialEq, Eq, Debug)]
 pub struct Matrix {
     shape: Shape,
-    rows: [Mask; 128],
-    prices: [u32; 128],
+    rows: [Mask; MOST_SYMBOLS],
+    prices: [u32; MOST_SYMBOLS],
 }
 
 impl Model for Matrix {
@@ -33,14 +34,22 @@ impl Model for Matrix {
 
     ghost invariant = { λ m. IsMatrix m.shape m.rows m.prices };
 
-    ghost inverse = { λ m. record { shape = dimensions m; rows = padded m.rows; prices = padded m.prices } };
+    ghost inverse = { λ m. record {
+      shape = dimensions m;
+      rows = padded m.rows;
+      prices = padded m.prices;
+    } };
 
-    ghost inverse_ok = { λ m h i. record { shape = m.shape; rows = h.unused i; prices = h.unused_prices i } };
+    ghost inverse_ok = { λ m h i. record {
+      shape = m.shape;
+      rows = h.unused i;
+      prices = h.unused_prices i;
+    } };
 }
 
 impl Matrix {
-    /// The matrix of this shape and these rows, one for each symbol, upwards. Each device has the
-    /// price 1.
+    /// The matrix of this shape and these rows, one for each symbol,
+    /// upwards. Each device has the price 1.
     ///
     /// Each row has columns of the shape alone.
     pub fn new(shape: Shape, rows: &[Mask]) -> Matrix
@@ -49,12 +58,12 @@ impl Matrix {
         ensures { result ≡ code_of shape rows.now }
     {
         let _symbols = shape.symbols();
-        let ones = [1; ROOM];
+        let ones = [1; MOST_SYMBOLS];
         Matrix::priced(shape, rows, &ones[..shape.n() as usize])
     }
 
-    /// The matrix of this shape, these rows, one for each symbol, and these prices, one for each
-    /// device, upwards.
+    /// The matrix of this shape, these rows, one for each symbol, and
+    /// these prices, one for each device, upwards.
     ///
     /// Each row has columns of the shape alone, and each price is from 1 to 1,000.
     pub fn priced(shape: Shape, rows: &[Mask], prices: &[u32]) -> Matrix
@@ -69,6 +78,23 @@ impl Matrix {
             shape,
             rows: room_of(&rows[..symbols]),
             prices: price_room_of(&prices[..shape.n() as usize]),
+        }
+    }
+
+    /// The matrix whose devices have moved on by `r`: the rows of each device are those of the
+    /// device `r` before it, round about. Prices stay with the devices.
+    pub fn rotated(&self, r: u32) -> Matrix
+        requires { r < self.now.devices }
+        ensures code { result ≡ rotated self.now r }
+        ensures matrix { IsMatrixCode result }
+    {
+        let symbols = self.shape.symbols() as usize;
+        let mut rows = self.rows;
+        rows[..symbols].rotate_right((r * self.shape.w()) as usize);
+        Matrix {
+            shape: self.shape,
+            rows,
+            prices: self.prices,
         }
     }
 
@@ -115,8 +141,8 @@ impl Matrix {
         sum
     }
 
-    /// What it costs to read the symbols of `set`: the sum of the prices of their devices, at most
-    /// 128,000.
+    /// What it costs to read the symbols of `set`: the sum of the
+    /// prices of their devices, at most 128,000.
     pub fn cost(&self, set: Mask) -> u32
         requires { set < 2 ^ length self.now.rows }
         ensures cost { result ≡ cost self.now set }
@@ -157,11 +183,11 @@ impl Matrix {
 }
 
 /// The prices, and zeros behind them.
-fn price_room_of(prices: &[u32]) -> [u32; ROOM]
+fn price_room_of(prices: &[u32]) -> [u32; MOST_SYMBOLS]
     requires { length prices.now ≤ most_symbols }
     ensures { result ≡ padded prices.now }
 {
-    let mut room = [0; ROOM];
+    let mut room = [0; MOST_SYMBOLS];
     for (i, price) in prices.iter().enumerate() {
         room[i] = *price;
     }
@@ -169,11 +195,11 @@ fn price_room_of(prices: &[u32]) -> [u32; ROOM]
 }
 
 /// The rows, and empty rows behind them.
-fn room_of(rows: &[Mask]) -> [Mask; ROOM]
+fn room_of(rows: &[Mask]) -> [Mask; MOST_SYMBOLS]
     requires { length rows.now ≤ most_symbols }
     ensures { result ≡ padded rows.now }
 {
-    let mut room = [Mask::EMPTY; ROOM];
+    let mut room = [Mask::EMPTY; MOST_SYMBOLS];
     for (i, row) in rows.iter().enumerate() {
         room[i] = *row;
     }

@@ -1,6 +1,7 @@
--- Two published codes, as sets of cells. A device is a column of w cells: cell (i, j) is row i of device j, which
--- is symbol j * w + i. Corbett and others, Row-Diagonal Parity for Double Disk Failure Correction, FAST 2004;
--- Blaum and others, EVENODD, IEEE Transactions on Computers 44(2), 1995.
+-- Two published codes, as sets of cells. A device is a column of w cells: cell (i, j)
+-- is row i of device j, which is symbol j * w + i. Corbett and others, Row-Diagonal
+-- Parity for Double Disk Failure Correction, FAST 2004; Blaum and others, EVENODD,
+-- IEEE Transactions on Computers 44(2), 1995.
 use Rattle.std.specs.Prelude.{ℕ, ◌+◌, ◌-◌, ◌*◌, ◌/◌, ◌%◌, ◌^◌, ◌==◌, Bool, ◌||◌, List, ◌++◌, map, Option, Some, None, if◌then◌else◌}
 use Rattle.std.specs.List.{range_with_len}
 use Rattle.mr_model.specs.Sets.{set_below, sum}
@@ -16,9 +17,11 @@ cells w devices passes = set_below (devices * w) (λ s. passes (s % w) (s / w))
 unfoldable pub data_rows : ℕ → List ℕ
 data_rows columns = map (λ c. 2 ^ c) (range_with_len 0 columns)
 
--- the rows, and behind them a device of parities: row l of it is the XOR of the cells that pass for l
+-- the rows, and behind them a device of parities: row l of it
+-- is the XOR of the cells that pass for l
 unfoldable pub with_parity : List ℕ → ℕ → ℕ → (ℕ → ℕ → ℕ → Bool) → List ℕ
-with_parity rows w devices passes = rows ++ map (λ l. sum rows (cells w devices (passes l))) (range_with_len 0 w)
+with_parity rows w devices passes =
+    rows ++ map (λ l. sum rows (cells w devices (passes l))) (range_with_len 0 w)
 
 -- the cells of one row
 abbrev pub in_row : ℕ → ℕ → ℕ → Bool
@@ -32,15 +35,20 @@ on_diagonal p l i j = (i + j) % p == l
 abbrev pub on_adjusted : ℕ → ℕ → ℕ → ℕ → Bool
 on_adjusted p l i j = ((i + j) % p == l) || ((i + j) % p == p - 1)
 
--- Row-diagonal parity: data on devices 0 to p - 2, row parity of these on device p - 1, and on device p the parity
--- of each diagonal but the last over devices 0 to p - 1, the row parity among them.
+-- Row-diagonal parity: data on devices 0 to p - 2, row parity of these on
+-- device p - 1, and on device p the parity of each diagonal but the last over
+-- devices 0 to p - 1, the row parity among them.
 unfoldable pub rdp_rows : ℕ → List ℕ
-rdp_rows p = with_parity (with_parity (data_rows ((p - 1) * (p - 1))) (p - 1) (p - 1) in_row) (p - 1) p (on_diagonal p)
+rdp_rows p =
+    with_parity (with_parity (data_rows ((p - 1) * (p - 1))) (p - 1) (p - 1) in_row) (p - 1) p
+    (on_diagonal p)
 
--- EVENODD: data on devices 0 to p - 1, row parity of these on device p, and on device p + 1 the parity of each
--- diagonal but the last over devices 0 to p - 1, with the last diagonal added to each.
+-- EVENODD: data on devices 0 to p - 1, row parity of these on device p, and on device p + 1 the
+-- parity of each diagonal but the last over devices 0 to p - 1, with the last diagonal added to
+-- each.
 unfoldable pub evenodd_rows : ℕ → List ℕ
-evenodd_rows p = with_parity (with_parity (data_rows (p * (p - 1))) (p - 1) p in_row) (p - 1) p (on_adjusted p)
+evenodd_rows p =
+    with_parity (with_parity (data_rows (p * (p - 1))) (p - 1) p in_row) (p - 1) p (on_adjusted p)
 
 -- the primes that the makers take
 abbrev pub is_rdp_size : ℕ → Bool
@@ -50,10 +58,18 @@ abbrev pub is_evenodd_size : ℕ → Bool
 is_evenodd_size p = (p == 3) || (p == 5) || (p == 7)
 
 abbrev pub rdp_code : ℕ → Code
-rdp_code p = code_of (record { devices = p + 1; symbols_per_device = p - 1; columns = (p - 1) * (p - 1) }) (rdp_rows p)
+rdp_code p = code_of (record {
+  devices = p + 1;
+  symbols_per_device = p - 1;
+  columns = (p - 1) * (p - 1);
+}) (rdp_rows p)
 
 abbrev pub evenodd_code : ℕ → Code
-evenodd_code p = code_of (record { devices = p + 2; symbols_per_device = p - 1; columns = p * (p - 1) }) (evenodd_rows p)
+evenodd_code p = code_of (record {
+  devices = p + 2;
+  symbols_per_device = p - 1;
+  columns = p * (p - 1);
+}) (evenodd_rows p)
 
 -- what the makers give
 unfoldable pub rdp_of : ℕ → Option Code
@@ -77,4 +93,8 @@ layout_rows Rdp p = rdp_rows p
 layout_rows EvenOdd p = evenodd_rows p
 
 abbrev pub layout_shape : Layout → ℕ → Dimensions
-layout_shape layout p = record { devices = data_devices layout p + 2; symbols_per_device = p - 1; columns = data_devices layout p * (p - 1) }
+layout_shape layout p = record {
+  devices = data_devices layout p + 2;
+  symbols_per_device = p - 1;
+  columns = data_devices layout p * (p - 1);
+}

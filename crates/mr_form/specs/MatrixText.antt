@@ -1,5 +1,5 @@
--- The text of a matrix, and what is read from a text: the matrix, or the first expected line that is
--- not of its form.
+-- The text of a matrix, and what is read from a text: the matrix, or the
+-- first expected line that is not of its form.
 use Rattle.std.specs.Prelude.{ℕ, ◌+◌, ◌==◌, nat_le, Bool, false, not, ◌&&◌, ◌||◌, List, [], ◌∷◌, ◌++◌, map, flat_map, take, drop, replicate, length, slice_index, slice_index_or, Option, Some, None, is_some, unwrap_or, Result, Ok, Err, codes, decimal, if◌then◌else◌}
 use Rattle.std.specs.Int.{bit_at}
 use Rattle.std.specs.List.{list_all, range_with_len, join_with_byte}
@@ -78,8 +78,8 @@ matrix_text m = ended (head_text (version_for m.prices) m.devices m.symbols_per_
 
 -- ---- lines and words
 
--- the lines of a text. No line feed stands behind the last, which is empty where a line feed ends
--- the text.
+-- the lines of a text. No line feed stands behind the last, which
+-- is empty where a line feed ends the text.
 abbrev pub lines : List ℕ → List (List ℕ)
 lines bytes = pieces line_feed bytes
 
@@ -90,8 +90,8 @@ words line = pieces space line
 abbrev pub line_at : List (List ℕ) → ℕ → List ℕ
 line_at text i = slice_index_or text i []
 
--- What is wrong with an expected line, where `left` are the lines from it on: no byte is left there,
--- or no line feed, or the line is not of its form.
+-- What is wrong with an expected line, where `left` are the lines from it on: no byte is left
+-- there, or no line feed, or the line is not of its form.
 unfoldable pub line_fault : (List ℕ → Bool) → LineKind → List (List ℕ) → Option LineKind
 line_fault is_formed kind [] = Some Missing
 line_fault is_formed kind (line ∷ []) = Some (if length line == 0 then Missing else NoEnd)
@@ -192,8 +192,8 @@ row_fault k body i = line_fault (is_row k) Row (drop i body)
 abbrev pub first_bad_row : Dimensions → List (List ℕ) → Option ℕ
 first_bad_row d body = find_below (symbol_count d) (λ i. is_some (row_fault d.columns body i))
 
--- ---- the whole: line 1 is the head, in version 2 line 2 has the prices, the rows follow, and nothing
--- follows them
+-- ---- the whole: line 1 is the head, in version 2 line 2 has the prices, the rows follow, and
+-- nothing follows them
 
 abbrev pub after_rows : Dimensions → List ℕ → ℕ → List (List ℕ) → Option ℕ → Result Code MatrixFault
 after_rows d prices first body (Some i) =
@@ -203,8 +203,8 @@ after_rows d prices first body None =
     then Ok (priced_code d (map row_of (take (symbol_count d) body)) prices)
     else Err (Bad (first + symbol_count d) Extra)
 
--- the matrix with these prices whose rows are the lines of the body, where row 0 is line `first` of
--- the text
+-- the matrix with these prices whose rows are the lines of the
+-- body, where row 0 is line `first` of the text
 abbrev pub read_rows : Dimensions → List ℕ → ℕ → List (List ℕ) → Result Code MatrixFault
 read_rows d prices first body = after_rows d prices first body (first_bad_row d body)
 

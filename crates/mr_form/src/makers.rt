@@ -4,12 +4,12 @@ ghost use Rattle.mr_model.specs.Code.{code_of};
 ghost use Rattle.mr_bits.specs.Matrices.{symbol_count};
 ghost use Rattle.mr_form.specs.Layouts.{rdp_of, evenodd_of, is_size, data_devices, layout_rows, layout_shape};
 
-use mr_bits::{Mask, Matrix, Shape};
+use mr_bits::{MOST_SYMBOLS, Mask, Matrix, Shape};
 
 /// The matrix of row-diagonal parity for the prime `p`, or None where `p` is not 3, 5, 7 or 11.
 ///
-/// There are `p + 1` devices of `p - 1` symbols: data, row parity, diagonal parity. From Corbett and others,
-/// Row-Diagonal Parity for Double Disk Failure Correction, FAST 2004.
+/// There are `p + 1` devices of `p - 1` symbols: data, row parity, diagonal parity. From Corbett
+/// and others, Row-Diagonal Parity for Double Disk Failure Correction, FAST 2004.
 #[tactic(auto, unfolding(crate::specs::Layouts::rdp_of))]
 pub fn rdp(p: u32) -> Option<Matrix>
     ensures { result ≡ rdp_of p }
@@ -23,8 +23,8 @@ pub fn rdp(p: u32) -> Option<Matrix>
 
 /// The matrix of EVENODD for the prime `p`, or None where `p` is not 3, 5 or 7.
 ///
-/// There are `p + 2` devices of `p - 1` symbols: data, row parity, diagonal parity. From Blaum and others,
-/// EVENODD, IEEE Transactions on Computers 44(2), 1995.
+/// There are `p + 2` devices of `p - 1` symbols: data, row parity, diagonal parity. From Blaum and
+/// others, EVENODD, IEEE Transactions on Computers 44(2), 1995.
 #[tactic(auto, unfolding(crate::specs::Layouts::evenodd_of))]
 pub fn evenodd(p: u32) -> Option<Matrix>
     ensures { result ≡ evenodd_of p }
@@ -72,7 +72,7 @@ impl Layout {
         let data = self.data_devices(p);
         let shape = Shape::new(data + 2, p - 1, data * (p - 1)).unwrap();
         let symbols = shape.symbols();
-        let mut rows = [Mask::EMPTY; 128];
+        let mut rows = [Mask::EMPTY; MOST_SYMBOLS];
         for symbol in 0..symbols {
             rows[symbol as usize] = self.row(p, symbol);
         }
@@ -94,11 +94,12 @@ impl Layout {
         row
     }
 
-    /// Whether a column is in the row of a symbol. The data symbol of the column is row `column % w` of device
-    /// `column / w`.
+    /// Whether a column is in the row of a symbol. The data symbol of the column is row `column %
+    /// w` of device `column / w`.
     ///
-    /// In row-diagonal parity it comes into the parity of a diagonal by itself and by the row parity of its row, on
-    /// device `p - 1`, and twice is not at all. In EVENODD the cells of diagonal `p - 1` are in each such parity.
+    /// In row-diagonal parity it comes into the parity of a diagonal by itself and by the row
+    /// parity of its row, on device `p - 1`, and twice is not at all. In EVENODD the cells of
+    /// diagonal `p - 1` are in each such parity.
     fn has_column(self, p: u32, symbol: u32, column: u32) -> bool
         requires size { is_size self p ≡ true }
         requires symbol { symbol < symbol_count (layout_shape self p) }

@@ -4,11 +4,11 @@ ghost use Rattle.mr_model.specs.Code.{most_symbols};
 ghost use Rattle.mr_form.specs.MatrixText.{are_ones, are_prices, is_price, is_price_line, number_in, prices_of, words};
 
 use arrayvec::ArrayVec;
-use mr_bits::GREATEST_PRICE;
+use mr_bits::{GREATEST_PRICE, MOST_SYMBOLS};
 use mr_text::{read_number, split_at_byte};
 
 /// The prices of the devices of a matrix, upwards.
-pub type Prices = ArrayVec<u32, 128>;
+pub type Prices = ArrayVec<u32, MOST_SYMBOLS>;
 
 /// Whether each price is 1.
 pub fn are_ones(prices: &[u32]) -> bool

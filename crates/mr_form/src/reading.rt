@@ -9,7 +9,7 @@ use crate::heads::{Heading, Version, read_head};
 use crate::lines::take_line;
 use crate::prices::{Prices, read_prices};
 use crate::rows::read_row;
-use mr_bits::{Mask, Matrix, Shape};
+use mr_bits::{MOST_SYMBOLS, Mask, Matrix, Shape};
 
 /// The matrix whose text `bytes` are, or the first fault of the text.
 ///
@@ -51,7 +51,7 @@ fn read_body(body: &[u8], version: Version, shape: Shape) -> Result<Matrix, Matr
 {
     let _symbols = shape.symbols();
     match version {
-        Version::One => read_rows(body, shape, &[1; 128][..shape.n() as usize], 2),
+        Version::One => read_rows(body, shape, &[1; MOST_SYMBOLS][..shape.n() as usize], 2),
         Version::Two => match price_line(body, shape.n()) {
             Ok((prices, rows)) => read_rows(rows, shape, &prices, 3),
             Err(kind) => Err(MatrixFault::Bad { line: 2, kind }),
@@ -85,7 +85,7 @@ fn read_rows(body: &[u8], shape: Shape, prices: &[u32], first: u32) -> Result<Ma
     ensures { result ≡ read_rows shape prices.now first (lines body.now) }
 {
     let symbols = shape.symbols();
-    let mut rows = [Mask::EMPTY; 128];
+    let mut rows = [Mask::EMPTY; MOST_SYMBOLS];
     let mut left = body;
     for i in 0..symbols {
         match next_row(left, shape.k()) {

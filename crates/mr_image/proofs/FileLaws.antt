@@ -1,13 +1,14 @@
--- A file that is made of an image holds that image.
-use Rattle.std.proofs.Common.{◌≡◌, ℕ, zero, suc, ◌+◌, ◌*◌, ◌<◌, ◌≤◌, List, ◌++◌, take, drop, flat_map, length, refl, sym, ap, ◌∙◌, arith, zero-add, add-zero, zero-mul}
+-- A file that is made of an image holds that image, and a file with a head and the symbols of an image is made of it.
+use Rattle.std.proofs.Common.{◌≡◌, ℕ, zero, suc, ◌+◌, ◌*◌, ◌<◌, ◌≤◌, List, ◌++◌, take, drop, flat_map, length, refl, sym, ap, ◌∙◌, arith, ap₂, zero-add, add-zero, zero-mul}
 use Rattle.std.specs.List.{range_with_len}
 use Rattle.std.proofs.Math.Nat.{suc-mul, mul_assoc, add-mul, mul-le-mul_right}
 use Rattle.std.proofs.Math.ListN.{length-append}
-use Rattle.std.proofs.Math.Seq.{drop-append-add}
-use Rattle.std.proofs.lemmas.List.{drop-append-le, take_at, append_assoc}
+use Rattle.std.proofs.Math.Seq.{drop-append-add, take-add}
+use Rattle.std.proofs.lemmas.List.{drop-append-le, take_at, append_assoc, drop-drop, take_all, length-drop, take-append-drop}
 use Rattle.mr_image.specs.Images.{Layout, stripe_symbols, Image, image_of, image_body, place}
-use Rattle.mr_image.specs.Heads.{head_bytes, image_bytes}
+use Rattle.mr_image.specs.Heads.{head_bytes, image_bytes, file_bytes}
 use Rattle.mr_image.specs.Laws.{HasSizes}
+use Rattle.mr_image.proofs.Codewords.{image_body-same}
 
 module _ (f : ℕ → List ℕ) (m : ℕ) where
   -- the pieces from a on, of m bytes each
@@ -80,3 +81,48 @@ image_of-image_bytes l image sizes s i here low =
     ∙ ap (λ x. image s x ++ second.rest ++ first.rest) (zero-add i)
     ∙ append_assoc (image s i) second.rest first.rest in
     ap (take b) whole ∙ take_at (image s i) (second.rest ++ first.rest) b (sizes.size s i here low)
+
+-- ---- the bytes of a file are its head and its symbols
+
+-- the pieces of a list, of m bytes each, from the a-th on
+pieces-are : (xs : List ℕ) (m n a : ℕ) → flat_map (λ k. take m (drop (k * m) xs)) (range_with_len a n) ≡ take (n * m) (drop (a * m) xs)
+pieces-are xs m zero a = ap (λ k. take k (drop (a * m) xs)) (sym (zero-mul m))
+pieces-are xs m (suc n) a =
+    let next : (a + 1) * m ≡ a * m + m = omega (arith, add-mul a 1 m) in
+    ap (λ ys. take m (drop (a * m) xs) ++ ys)
+    (pieces-are xs m n (a + 1) ∙ ap (λ k. take (n * m) (drop k xs)) next ∙ ap (take (n * m)) (sym (drop-drop m (a * m) xs)))
+    ∙ sym (take-add m (n * m) (drop (a * m) xs))
+    ∙ ap (λ k. take k (drop (a * m) xs)) (omega (arith, suc-mul n m))
+
+-- all pieces from the first on
+pieces-first : (xs : List ℕ) (m n : ℕ) → flat_map (λ k. take m (drop (k * m) xs)) (range_with_len 0 n) ≡ take (n * m) xs
+pieces-first xs m n = pieces-are xs m n 0 ∙ ap (λ k. take (n * m) (drop k xs)) (zero-mul m)
+
+module _ (l : Layout) (bytes : List ℕ) where
+  -- the symbols of stripe s, one behind the other
+  stripe-is : (s : ℕ) → flat_map (image_of l bytes s) (range_with_len 0 (stripe_symbols l))
+      ≡ take (stripe_symbols l * l.symbol_bytes) (drop (s * (stripe_symbols l * l.symbol_bytes)) (drop 32 bytes))
+  stripe-is s =
+      let n : ℕ = stripe_symbols l in
+      let b : ℕ = l.symbol_bytes in
+      let base : List ℕ = drop (s * (n * b)) (drop 32 bytes) in
+      let at : (i : ℕ) → place l s i ≡ 32 + s * (n * b) + i * b = λ i. omega (arith, add-mul (s * n) i b, mul_assoc s n b) in
+      let same : (i : ℕ) → image_of l bytes s i ≡ take b (drop (i * b) base) =
+      λ i. ap (λ p. take b (drop p bytes)) (at i) ∙ ap (take b) (sym (drop-drop (i * b) (32 + s * (n * b)) bytes) ∙ ap (drop (i * b)) (sym (drop-drop (s * (n * b)) 32 bytes))) in
+      (λ j. flat_map (λ i. same i j) (range_with_len 0 n)) ∙ pieces-first base b n
+
+  -- the symbols of all stripes are all bytes behind the head
+  body-is : length bytes ≡ file_bytes l → image_body l (image_of l bytes) ≡ drop 32 bytes
+  body-is long =
+      let m : ℕ = stripe_symbols l * l.symbol_bytes in
+      let few : length (drop 32 bytes) ≤ l.stripes * m = omega (arith, length-drop 32 bytes, long, mul_assoc l.stripes (stripe_symbols l) l.symbol_bytes) in
+      (λ j. flat_map (λ s. stripe-is s j) (range_with_len 0 l.stripes))
+      ∙ pieces-first (drop 32 bytes) m l.stripes
+      ∙ take_all (l.stripes * m) (drop 32 bytes) few
+
+-- A file of the right length, with the head, and with each symbol of an image at its place, is the file of that image.
+pub file-is : (l : Layout) (image : Image) (bytes : List ℕ) → length bytes ≡ file_bytes l → take 32 bytes ≡ head_bytes l
+    → ((s i : ℕ) → s < l.stripes → i < stripe_symbols l → image_of l bytes s i ≡ image s i) → bytes ≡ image_bytes l image
+file-is l image bytes long head same =
+    sym (take-append-drop 32 bytes)
+    ∙ ap₂ (λ xs ys. xs ++ ys) head (sym (body-is l bytes long) ∙ image_body-same l (image_of l bytes) image same)

@@ -1,8 +1,8 @@
 -- The fault that is answered for a head is its first.
-use Rattle.std.proofs.Common.{◌≡◌, ℕ, ◌%◌, ◌≤◌, ◌==◌, Bool, true, false, cond, not, ◌||◌, nat_lt, List, take, drop, replicate, Result, Ok, Err, codes, inl, inr, refl, sym, ap, subst, ◌∙◌, arith, eqb-true, eq-eqb}
+use Rattle.std.proofs.Common.{◌≡◌, ℕ, ◌%◌, ◌≤◌, ◌==◌, Bool, true, false, cond, not, ◌||◌, nat_lt, List, take, drop, replicate, Result, Ok, Err, ◌⊎◌, ⊎_elim, inl, inr, refl, sym, ap, subst, ◌∙◌, arith, eqb-true, eq-eqb}
 use Rattle.std.specs.Prelude.{IfErr}
 use Rattle.std.specs.Str.{bytes_eq}
-use Rattle.std.proofs.lemmas.Bool.{both_ways, and_parts, and_from, not-true, not-false, eqb-false, ltb-true, ltb-false}
+use Rattle.std.proofs.lemmas.Bool.{both_ways, and_parts, and_from, or_left, or_right, not-true, not-false, eqb-false, ltb-true, ltb-false}
 use Rattle.std.proofs.lemmas.Slice.Eq.{bytes_eq-Decides}
 use Rattle.mr_model.specs.Code.{Dimensions}
 use Rattle.mr_bits.specs.declared.errors.Large.{Large}
@@ -10,9 +10,9 @@ use Rattle.mr_bits.specs.declared.errors.What.TheVariants.{SymbolBytes, ImageByt
 use Rattle.mr_image.specs.declared.limits.TheConstants.{IMAGE_LIMIT, SYMBOL_LIMIT}
 use Rattle.mr_image.specs.declared.faults.HeadFault.{HeadFault}
 use Rattle.mr_image.specs.declared.faults.HeadFault.TheVariants.{Bad, Large as TooLarge}
-use Rattle.mr_image.specs.declared.faults.ImageKind.TheVariants.{Head, Shape, Bytes, Length}
+use Rattle.mr_image.specs.declared.faults.ImageKind.TheVariants.{Head, Shape, Bytes, Length, Planned, Version}
 use Rattle.mr_image.specs.Images.{Layout, body_bytes}
-use Rattle.mr_image.specs.Heads.{file_bytes, layout, checked_layout, has_marks, number_at, is_of_shape, of_length, read_head}
+use Rattle.mr_image.specs.Heads.{file_bytes, layout, mark, checked_layout, has_mark, has_marks, version_of, with_version, number_at, is_of_shape, of_length, read_head}
 use Rattle.mr_image.proofs.HeadLaws.{guard_ok, checked_layout-is}
 use Rattle.mr_image.specs.HeadFaults.{HasMarks, HasShape, head_layout, HasWholeWords, IsWithinLimits, IsSizeFault, IsHeadFault}
 
@@ -27,19 +27,36 @@ stops false first fault rest e = later refl e
 
 -- ---- the tests of the marks and of the shape
 
+mark-true : (version : ℕ) (bytes : List ℕ) → has_mark version bytes ≡ true → take 8 bytes ≡ mark version
+unfolding has_mark
+mark-true version bytes e = (bytes_eq-Decides (take 8 bytes) (mark version)).0 e
+
+true-mark : (version : ℕ) (bytes : List ℕ) → take 8 bytes ≡ mark version → has_mark version bytes ≡ true
+unfolding has_mark
+true-mark version bytes e = (bytes_eq-Decides (take 8 bytes) (mark version)).1 e
+
 marks-true : (bytes : List ℕ) → has_marks bytes ≡ true → HasMarks bytes
 unfolding has_marks
 marks-true bytes e =
-    let parts = and_parts (bytes_eq (take 8 bytes) (codes "MRIMAGE1")) (bytes_eq (take 8 (drop 24 bytes)) (replicate 8 0)) e in
+    let parts = and_parts (has_mark 1 bytes || has_mark 2 bytes) (bytes_eq (take 8 (drop 24 bytes)) (replicate 8 0)) e in
     record {
-      mark = (bytes_eq-Decides (take 8 bytes) (codes "MRIMAGE1")).0 parts.0;
+      front = front (has_mark 1 bytes) refl parts.0;
       zeros = (bytes_eq-Decides (take 8 (drop 24 bytes)) (replicate 8 0)).0 parts.1;
     }
+  where
+    front : (b : Bool) → has_mark 1 bytes ≡ b → (b || has_mark 2 bytes) ≡ true → (take 8 bytes ≡ mark 1) ⊎ (take 8 bytes ≡ mark 2)
+    front true first e = inl (mark-true 1 bytes first)
+    front false other e = inr (mark-true 2 bytes e)
 
 true-marks : (bytes : List ℕ) → HasMarks bytes → has_marks bytes ≡ true
 unfolding has_marks
-true-marks bytes h = and_from _ _ ((bytes_eq-Decides (take 8 bytes) (codes "MRIMAGE1")).1 h.mark)
-    ((bytes_eq-Decides (take 8 (drop 24 bytes)) (replicate 8 0)).1 h.zeros)
+true-marks bytes h = and_from _ _ front ((bytes_eq-Decides (take 8 (drop 24 bytes)) (replicate 8 0)).1 h.zeros)
+  where
+    front : (has_mark 1 bytes || has_mark 2 bytes) ≡ true
+    front = ⊎_elim
+        (λ first. or_left _ _ (true-mark 1 bytes first))
+        (λ second. or_right _ _ (true-mark 2 bytes second))
+        h.front
 
 shape-true : (d : Dimensions) (bytes : List ℕ) → is_of_shape d bytes ≡ true → HasShape d bytes
 shape-true d bytes e =
@@ -111,14 +128,16 @@ module _ (bytes : List ℕ) (d : Dimensions) (len : ℕ) where
   with_size marks shape (Bad Shape) h = absurd h
   with_size marks shape (Bad Bytes) h = (marks, shape, h)
   with_size marks shape (Bad Length) h = absurd h
+  with_size marks shape (Bad Planned) h = absurd h
+  with_size marks shape (Bad Version) h = absurd h
   with_size marks shape (TooLarge named) h = (marks, shape, h)
 
   last : HasMarks bytes → HasShape d bytes → (fault : HeadFault) (r : Result Layout HeadFault) → checked_layout d (number_at 16 bytes) (number_at 20 bytes) ≡ r
-      → of_length len r ≡ Err fault → IsHeadFault bytes d len fault
+      → of_length (version_of bytes) len r ≡ Err fault → IsHeadFault bytes d len fault
   last marks shape fault (Err f) is e = with_size marks shape fault (size-fault d (number_at 16 bytes) (number_at 20 bytes) fault (is ∙ e))
   last marks shape fault (Ok l) is e = go (len == file_bytes l) refl e
     where
-      go : (b : Bool) → (len == file_bytes l) ≡ b → cond b (Ok l) (Err (Bad Length)) ≡ Err fault → IsHeadFault bytes d len fault
+      go : (b : Bool) → (len == file_bytes l) ≡ b → cond b (Ok (with_version (version_of bytes) l)) (Err (Bad Length)) ≡ Err fault → IsHeadFault bytes d len fault
       go true same e = cc
       go false other e =
           let named : Bad Length ≡ fault = cc in
@@ -127,7 +146,7 @@ module _ (bytes : List ℕ) (d : Dimensions) (len : ℕ) where
           (marks, shape, size-within d (number_at 16 bytes) (number_at 20 bytes) l is, (λ same. eqb-false _ _ other (same ∙ ap file_bytes layout_is)))
 
   abbrev rest : Result Layout HeadFault
-  rest = of_length len (checked_layout d (number_at 16 bytes) (number_at 20 bytes))
+  rest = of_length (version_of bytes) len (checked_layout d (number_at 16 bytes) (number_at 20 bytes))
 
   pub head-fault : (fault : HeadFault) → read_head bytes d len ≡ Err fault → IsHeadFault bytes d len fault
   unfolding read_head

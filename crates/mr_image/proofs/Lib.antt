@@ -5,4 +5,7 @@ pub mod HeadFaultLaws
 pub mod Codewords
 pub mod XorLaws
 pub mod FileLaws
+pub mod Places
+pub mod RotatedLaws
 mod Rows
+mod RotatedRows

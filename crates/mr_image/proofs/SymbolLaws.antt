@@ -9,17 +9,11 @@ use Rattle.mr_model.specs.Code.{Code, row, is_equation}
 use Rattle.mr_model.specs.Codewords.{codeword}
 use Rattle.mr_model.proofs.Lists.{map-range-same}
 use Rattle.mr_model.proofs.SumLaws.{pick, sum-none, sum-xor}
+use Rattle.mr_model.proofs.Apart.{pick-none}
 use Rattle.mr_model.proofs.Kept.{true-is_equation}
 use Rattle.mr_image.specs.Images.{xor_symbols}
 
 -- ---- sums of numbers
-
-pick-none : (d : ℕ) → pick d 0 ≡ 0
-pick-none d = go (d == 1)
-  where
-    go : (b : Bool) → ◌≡◌ {A = ℕ} (cond b 0 0) 0
-    go true = refl
-    go false = refl
 
 pick-same : (d u v : ℕ) → (d ≡ 1 → u ≡ v) → pick d u ≡ pick d v
 pick-same d u v h = go (d == 1) refl

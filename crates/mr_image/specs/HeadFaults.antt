@@ -1,5 +1,6 @@
--- The first fault of an image's head, as a property: what comes before it in the order holds, and it doesn't.
-use Rattle.std.specs.Prelude.{◌≡◌, ℕ, ◌%◌, ◌<◌, ◌≤◌, ◌≢◌, ◌⊎◌, List, take, drop, replicate, codes}
+-- The first fault of an image's head, as a property: what comes
+-- before it in the order holds, and it doesn't.
+use Rattle.std.specs.Prelude.{◌≡◌, ℕ, ◌%◌, ◌<◌, ◌≤◌, ◌≢◌, ◌⊎◌, List, take, drop, replicate}
 use Rattle.mr_model.specs.Code.{Dimensions}
 use Rattle.mr_bits.specs.declared.errors.Large.{Large}
 use Rattle.mr_bits.specs.declared.errors.What.{What}
@@ -7,13 +8,13 @@ use Rattle.mr_bits.specs.declared.errors.What.TheVariants.{SymbolBytes, ImageByt
 use Rattle.mr_image.specs.declared.limits.TheConstants.{IMAGE_LIMIT, SYMBOL_LIMIT}
 use Rattle.mr_image.specs.declared.faults.HeadFault.{HeadFault}
 use Rattle.mr_image.specs.declared.faults.HeadFault.TheVariants.{Bad, Large as TooLarge}
-use Rattle.mr_image.specs.declared.faults.ImageKind.TheVariants.{Head, Shape, Bytes, Length}
+use Rattle.mr_image.specs.declared.faults.ImageKind.TheVariants.{Head, Shape, Bytes, Length, Planned, Version}
 use Rattle.mr_image.specs.Images.{Layout, body_bytes}
-use Rattle.mr_image.specs.Heads.{file_bytes, layout, number_at}
+use Rattle.mr_image.specs.Heads.{mark, file_bytes, layout, number_at}
 
--- bytes 0 to 7 and 24 to 31 are those of a head
+-- bytes 0 to 7 are the mark of version 1 or of version 2, and bytes 24 to 31 are zeros
 pub record HasMarks (bytes : List ℕ) : Type 0 where
-  pub mark : take 8 bytes ≡ codes "MRIMAGE1"
+  pub front : (take 8 bytes ≡ mark 1) ⊎ (take 8 bytes ≡ mark 2)
   pub zeros : take 8 (drop 24 bytes) ≡ replicate 8 0
 
 -- the devices and the symbols of each are those of these dimensions
@@ -53,8 +54,11 @@ IsSizeFault l (TooLarge named) = HasWholeWords l × IsLarge l named
 IsSizeFault l (Bad Head) = ⊥
 IsSizeFault l (Bad Shape) = ⊥
 IsSizeFault l (Bad Length) = ⊥
+IsSizeFault l (Bad Planned) = ⊥
+IsSizeFault l (Bad Version) = ⊥
 
--- the first fault of the head of a file of this length, for a code of these dimensions
+-- The first fault of the head of a file of this length, for a code of these dimensions. That an
+-- image is of version 2 is no fault of its head.
 abbrev pub IsHeadFault : List ℕ → Dimensions → ℕ → HeadFault → Type 0
 IsHeadFault bytes d len (Bad Head) = ¬ HasMarks bytes
 IsHeadFault bytes d len (Bad Shape) = HasMarks bytes × ¬ HasShape d bytes
@@ -64,3 +68,5 @@ IsHeadFault bytes d len (TooLarge named) = HasMarks bytes × HasShape d bytes
     × IsSizeFault (head_layout d bytes) (TooLarge named)
 IsHeadFault bytes d len (Bad Length) = HasMarks bytes × HasShape d bytes
     × IsWithinLimits (head_layout d bytes) × (len ≢ file_bytes (head_layout d bytes))
+IsHeadFault bytes d len (Bad Planned) = ⊥
+IsHeadFault bytes d len (Bad Version) = ⊥

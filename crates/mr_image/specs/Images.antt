@@ -1,9 +1,10 @@
--- Images: the bytes of each symbol in each stripe. What a plan makes of an image, and when its survivors come from data.
+-- Images: the bytes of each symbol in each stripe. What a plan makes of an image, and when its
+-- survivors come from data.
 use Rattle.std.specs.Prelude.{◌≡◌, ℕ, ◌+◌, ◌*◌, ◌%◌, ◌^◌, ◌<◌, ◌≤◌, ◌==◌, ◌⊎◌, List, [], ◌∷◌, map, flat_map, take, drop, slice_index, Option, Some, None, if◌then◌else◌}
 use Rattle.std.specs.Int.{bit_at}
 use Rattle.std.specs.List.{range_with_len}
 use Rattle.mr_model.specs.Sets.{sum}
-use Rattle.mr_model.specs.Code.{Code}
+use Rattle.mr_model.specs.Code.{Code, most_symbols}
 use Rattle.mr_model.specs.Codewords.{codeword}
 use Rattle.mr_model.specs.Choice.{single}
 use Rattle.mr_model.specs.Plans.{Recipe, IsValidPlan}
@@ -11,8 +12,10 @@ use Rattle.mr_image.specs.declared.limits.TheConstants.{HEAD_BYTES, IMAGE_LIMIT,
 
 -- ---- the form of an image, and where its symbols stand in a file
 
--- devices, the symbols of each in a stripe, the bytes of a symbol, and the stripes
+-- the version, 1 or 2, the devices, the symbols of each in a
+-- stripe, the bytes of a symbol, and the stripes
 pub record Layout : Type 0 where
+  pub version : ℕ
   pub devices : ℕ
   pub symbols_per_device : ℕ
   pub symbol_bytes : ℕ
@@ -28,9 +31,11 @@ body_bytes l = l.stripes * stripe_symbols l * l.symbol_bytes
 
 -- a layout within the limits of this program
 pub record IsLayout (l : Layout) : Type 0 where
+  pub first_version : 1 ≤ l.version
+  pub last_version : l.version ≤ 2
   pub some_devices : 1 ≤ l.devices
   pub some_symbols : 1 ≤ l.symbols_per_device
-  pub few_symbols : stripe_symbols l ≤ 128
+  pub few_symbols : stripe_symbols l ≤ most_symbols
   pub some_bytes : 1 ≤ l.symbol_bytes
   pub whole_words : l.symbol_bytes % 8 ≡ 0
   pub few_bytes : l.symbol_bytes ≤ SYMBOL_LIMIT
@@ -66,7 +71,8 @@ image_body l image =
 abbrev pub every_stripe : {X : Type 0} → X → ℕ → X
 every_stripe x s = x
 
--- the XOR of the symbols at the members of x, at each place of `size` bytes: of none it is zero bytes
+-- the XOR of the symbols at the members of x, at each place of
+-- `size` bytes: of none it is zero bytes
 unfoldable pub xor_symbols : ℕ → List (List ℕ) → ℕ → List ℕ
 xor_symbols size symbols x =
     map (λ place. sum (map (λ bytes. slice_index bytes place) symbols) x) (range_with_len 0 size)
@@ -82,7 +88,8 @@ abbrev pub rebuilt : ℕ → List (List ℕ) → List ℕ → Option ℕ → Lis
 rebuilt size symbols symbol None = symbol
 rebuilt size symbols symbol (Some equation) = xor_symbols size symbols equation
 
--- the mended image: the symbols that have a recipe in their stripe are rebuilt, and the others are as they were
+-- the mended image: the symbols that have a recipe in their stripe are
+-- rebuilt, and the others are as they were
 unfoldable pub mended : Layout → (ℕ → List Recipe) → Image → ℕ → ℕ → List ℕ
 mended l recipes image s i =
     rebuilt l.symbol_bytes (stripe_of l image s) (image s i) (equation_of (recipes s) i)

@@ -13,9 +13,9 @@ pub record AreCodesOf (l : Layout) (codes : ℕ → Code) : Type 0 where
   pub same_devices : (s : ℕ) → s < l.stripes → (codes s).devices ≡ l.devices
   pub same_symbols : (s : ℕ) → s < l.stripes → (codes s).symbols_per_device ≡ l.symbols_per_device
 
--- Whatever codes, plans and data the stripes have: where the plans are valid and the survivors of an image come from
--- the data, each symbol of the mended image is that of the codeword, its file is that of the codewords, and the near
--- reply for each lost symbol is its symbol of the codeword.
+-- Whatever codes, plans and data the stripes have: where the plans are valid and the survivors of
+-- an image come from the data, each symbol of the mended image is that of the codeword, its file is
+-- that of the codewords, and the near reply for each lost symbol is its symbol of the codeword.
 pub record GivesCodewords (l : Layout) : Type 0 where
   pub symbols : (codes : ℕ → Code) (survivors lost sets : ℕ → ℕ) (recipes : ℕ → List Recipe)
       (image : Image) (columns : ℕ → List (List ℕ))

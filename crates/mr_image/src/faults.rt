@@ -16,6 +16,13 @@ pub enum ImageKind {
     /// The file's length is not that of its head and its symbols.
     #[error("length")]
     Length,
+    /// The image is of version 2, and a plan was handed in: such an
+    /// image has a plan for each rotation.
+    #[error("planned")]
+    Planned,
+    /// The image is of version 2 already.
+    #[error("version")]
+    Version,
 }
 
 /// Why bytes are not the head of an image: the first fault.

@@ -1,5 +1,6 @@
-//! Images of codes: the head of an image file and the places of its symbols, and the definitions of what is made of an
-//! image: the mended one, near replies, and the codewords that its survivors come from.
+//! Images of codes: the head of an image file and the places of its symbols, and
+//! the definitions of what is made of an image: the mended one, near replies, and
+//! the codewords that its survivors come from.
 #![tactic(auto)]
 
 mod faults;

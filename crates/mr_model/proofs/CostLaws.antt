@@ -2,7 +2,6 @@
 use Rattle.std.proofs.Common.{◌≡◌, ℕ, zero, suc, ◌+◌, ◌*◌, ◌/◌, ◌%◌, ◌^◌, ◌<◌, ◌≤◌, Bool, true, false, cond, List, [], ◌∷◌, length, get_or, bit_and, bit_or, ⊎_elim, refl, sym, ◌∙◌, arith, ap, subst, pow-suc}
 use Rattle.std.specs.Prelude.{◌==◌, slice_index, count_ones}
 use Rattle.std.specs.Int.{bit_at}
-use Rattle.std.specs.Int.Count.{ones, ones_in}
 use Rattle.std.proofs.lemmas.Bool.{cases_eq}
 use Rattle.std.proofs.lemmas.Nat.{ones_cat}
 use Rattle.std.proofs.lemmas.Nat.Bits.{bit_at-zero, bit_at-pow_same, bit_at-lt, bit_at_and, bit_at_or, same_from_bits}
@@ -11,7 +10,7 @@ use Rattle.mr_model.specs.Code.{Code, cost, symbol_prices, greatest_price}
 use Rattle.mr_model.proofs.SetLaws.{Within-le, true-within, bit_at_pow_cases, bit_at_below_cases}
 use Rattle.mr_model.proofs.Prices.{IsPriced, total-none, total-single, total-or, cost-less, length-symbol_prices, symbol_prices-at}
 use Rattle.mr_model.proofs.CheapestLaws.{IsCost}
-use Rattle.mr_model.proofs.Loops.{IsTurn}
+use Rattle.mr_model.proofs.Loops.{IsTurn, ones_digit}
 
 pub price_law : (m : Code) (a : ℕ) → IsPriced m → a < 2 ^ length m.rows → IsCost a (cost m)
 price_law m a priced low = record {
@@ -19,12 +18,6 @@ price_law m a priced low = record {
 }
 
 -- ---- prices of 1
-
-pub ones_digit : (d : ℕ) → d < 2 → count_ones d ≡ d
-unfolding ones ones_in
-ones_digit zero h = refl
-ones_digit (suc zero) h = refl
-ones_digit (suc (suc d)) h = absurd (omega arith)
 
 pub ones_halves : (x : ℕ) → count_ones x ≡ count_ones (x / 2) + x % 2
 ones_halves x =

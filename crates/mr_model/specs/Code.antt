@@ -1,11 +1,13 @@
--- Codes by XOR: the rows of the symbols, equations of a symbol, kept and plain sets, sets of sum zero.
+-- Codes by XOR: the rows of the symbols, equations of a symbol,
+-- kept and plain sets, sets of sum zero.
 use Rattle.std.specs.Prelude.{ℕ, ◌-◌, ◌*◌, ◌/◌, ◌^◌, ◌≤◌, ◌==◌, Bool, not, List, map, length, replicate, Option, unwrap_or, slice_index, bit_xor}
 use Rattle.std.specs.List.{range_with_len}
 use Rattle.mr_model.specs.Sets.{has, below, minus, any_subset, find_subset, any_member, all_members, find_member, filter_members, sum, total}
 use Rattle.mr_model.specs.Members.{members}
 
 -- A code: its devices, the symbols of each, the columns of data, the row of each symbol as a set of
--- columns, and the price of a symbol of each device. Symbol i stands on device i / symbols_per_device.
+-- columns, and the price of a symbol of each device. Symbol i stands on device i /
+-- symbols_per_device.
 pub record Code : Type 0 where
   pub devices : ℕ
   pub symbols_per_device : ℕ
@@ -19,8 +21,8 @@ pub record Dimensions : Type 0 where
   pub symbols_per_device : ℕ
   pub columns : ℕ
 
--- the most symbols that a code may have in this program, the most columns, and the greatest price of
--- a device
+-- the most symbols that a code may have in this program, the most
+-- columns, and the greatest price of a device
 abbrev pub most_symbols : ℕ
 most_symbols = 128
 
@@ -39,7 +41,11 @@ pub record IsDimensions (d : Dimensions) : Type 0 where
   pub few_columns : d.columns ≤ most_columns
 
 abbrev pub dimensions : Code → Dimensions
-dimensions m = record { devices = m.devices; symbols_per_device = m.symbols_per_device; columns = m.columns }
+dimensions m = record {
+  devices = m.devices;
+  symbols_per_device = m.symbols_per_device;
+  columns = m.columns;
+}
 
 -- the code of these dimensions, rows and prices
 abbrev pub priced_code : Dimensions → List ℕ → List ℕ → Code
@@ -58,6 +64,10 @@ code_of d rows = priced_code d rows (replicate d.devices 1)
 -- the set of the symbols of device i
 abbrev pub device_symbols : Code → ℕ → ℕ
 device_symbols m i = (2 ^ m.symbols_per_device - 1) * 2 ^ (i * m.symbols_per_device)
+
+-- the symbols that are not lost
+abbrev pub survivors : Code → ℕ → ℕ
+survivors m lost = minus (2 ^ length m.rows - 1) lost
 
 -- ---- sums and equations
 
@@ -89,7 +99,8 @@ undetermined m a targets = find_member targets (λ t. not (has_equation m a t))
 
 -- the price of each symbol, which is that of its device
 unfoldable pub symbol_prices : Code → List ℕ
-symbol_prices m = map (λ i. slice_index m.prices (i / m.symbols_per_device)) (range_with_len 0 (length m.rows))
+symbol_prices m =
+    map (λ i. slice_index m.prices (i / m.symbols_per_device)) (range_with_len 0 (length m.rows))
 
 -- what it costs to read the symbols of s
 unfoldable pub cost : Code → ℕ → ℕ
@@ -111,7 +122,8 @@ kept_equation m a t = unwrap_or (combination m a (row m t)) 0
 
 -- the union of the equations of the targets within the kept members of a
 unfoldable pub plain : Code → ℕ → ℕ → ℕ
-plain m a targets = filter_members (kept m a) (λ i. any_member targets (λ t. has (kept_equation m a t) i))
+plain m a targets =
+    filter_members (kept m a) (λ i. any_member targets (λ t. has (kept_equation m a t) i))
 
 -- ---- sets of sum zero
 

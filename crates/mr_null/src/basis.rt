@@ -1,14 +1,14 @@
 ghost use Rattle.std.specs.Prelude.{◌≡◌, ℕ, ◌^◌, ◌<◌, ◌≤◌, ◌&&◌, length, count_ones, nat_lt, if◌then◌else◌, IfOk, IfErr, OnOk};
 ghost use Rattle.std.specs.Int.{bit_at};
 ghost use Rattle.mr_model.specs.Sets.{within, often};
-ghost use Rattle.mr_model.specs.Code.{kept, dropped, combination, generator, nulls, is_null};
+ghost use Rattle.mr_model.specs.Code.{kept, dropped, combination, generator, most_columns, nulls, is_null};
 ghost use Rattle.mr_null.specs.declared.nulls.NullsError.TheVariants.{TooMany, Memory};
 ghost use Rattle.mr_model.specs.Members.{members};
 
 use crate::nulls::{Nulls, NullsError, double, only_empty};
 use crate::pivots::{Combined, Pivot, reduced};
 use arrayvec::ArrayVec;
-use mr_bits::{Mask, Matrix};
+use mr_bits::{MOST_SYMBOLS, Mask, Matrix};
 use std::alloc::Global;
 use std::marker::Model;
 
@@ -19,7 +19,7 @@ pub struct Basis {
     matrix: Matrix,
     set: Mask,
     kept: Mask,
-    pivots: ArrayVec<Pivot, 128>,
+    pivots: ArrayVec<Pivot, MOST_SYMBOLS>,
 }
 
 impl Model for Basis {
@@ -133,7 +133,7 @@ impl Basis {
     }
 
     /// A member that is not kept, together with the combination of its row.
-    fn generator(&self, symbol: u8) -> Mask
+    pub fn generator(&self, symbol: u8) -> Mask
         requires { bit_at self.now.set symbol ≡ 1 }
         ensures { result ≡ generator self.now.code self.now.set symbol }
     {
@@ -154,7 +154,7 @@ fn is_above(d: u32, most: u32) -> bool
 /// The least column of a sum that is not empty.
 fn lowest(sum: Mask) -> u8
     requires some { sum ≡ 0 → ⊥ }
-    ensures in_range { result < 128 }
+    ensures in_range { result < most_columns }
     ensures member { bit_at sum result ≡ 1 }
 {
     sum.number().trailing_zeros() as u8

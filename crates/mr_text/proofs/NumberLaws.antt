@@ -51,7 +51,7 @@ pub record IsNumberText (text : List ℕ) : Type 0 where
   pub zero : get_or text 0 0 ≡ 48 → length text ≡ 1
 
 -- two texts that `bytes_eq` takes for one are one
-bytes_eq_true : (xs ys : List ℕ) → bytes_eq xs ys ≡ true → xs ≡ ys
+pub bytes_eq_true : (xs ys : List ℕ) → bytes_eq xs ys ≡ true → xs ≡ ys
 bytes_eq_true xs ys h = (bytes_eq-Decides xs ys).0 h
 
 long_number : (text : List ℕ) → is_long_number text ≡ true → IsNumberText text

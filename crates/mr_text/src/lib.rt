@@ -1,6 +1,7 @@
-//! Numbers as the matrix texts, the scripts, the plan texts and the command line of `minread` write them: `0`,
-//! or a digit 1 to 9 followed by at most eight digits. They are printed by `itoa`, in std's word `decimal`.
-//! And the lines of these texts and the words of a line, cut at the first byte.
+//! Numbers as the matrix texts, the scripts, the plan texts and the command line of
+//! `minread` write them: `0`, or a digit 1 to 9 followed by at most eight digits. They
+//! are printed by `itoa`, in std's word `decimal`. And the lines of these texts and
+//! the words of a line, cut at the first byte.
 #![tactic(auto)]
 
 mod lines;
@@ -13,8 +14,8 @@ ghost use Rattle.mr_text.specs.Numbers.{is_number, number_of, greatest_number};
 
 pub use lines::split_at_byte;
 
-/// The number that `text` is, from 0 to 999,999,999: None exactly where it is not `0` and not a digit 1 to 9
-/// followed by at most eight digits. No sign, no leading zero and no space is taken.
+/// The number that `text` is, from 0 to 999,999,999: None exactly where it is not `0` and not a
+/// digit 1 to 9 followed by at most eight digits. No sign, no leading zero and no space is taken.
 #[tactic(auto, unfolding(crate::specs::Numbers::number_of))]
 pub fn read_number(text: &[u8]) -> Option<u32>
     ensures value { result ≡ number_of text.now }

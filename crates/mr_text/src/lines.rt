@@ -6,8 +6,8 @@ ghost use Rattle.mr_text.specs.Lines.{pieces};
 
 use memchr::memchr;
 
-/// What stands before the first byte `at`, and what stands behind it: None exactly where no byte is `at`.
-/// Takes no memory.
+/// What stands before the first byte `at`, and what stands behind it: None exactly where no byte is
+/// `at`. Takes no memory.
 pub fn split_at_byte(bytes: &[u8], at: u8) -> Option<(&[u8], &[u8])>
     ensures pieces { MatchOption result (pieces at bytes.now ≡ bytes.now ∷ [])
         (λ split. pieces at bytes.now ≡ split.0.now ∷ pieces at split.1.now) }
