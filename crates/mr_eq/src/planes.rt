@@ -1,4 +1,4 @@
-ghost use Rattle.std.specs.Prelude.{◌≡◌, ℕ, ◌^◌, ◌<◌, ◌≤◌, length, slice_index, bit_and, count_ones};
+ghost use Rattle.std.specs.Prelude.{◌≡◌, ℕ, ◌^◌, ◌<◌, ◌≤◌, true, length, slice_index, bit_and, count_ones};
 ghost use Rattle.mr_model.specs.Code.{Code, cost, greatest_price, symbol_prices};
 ghost use Rattle.mr_model.specs.Planes.{IsPlane, ArePlanes};
 
@@ -76,4 +76,16 @@ fn members_in(plane: Mask, set: Mask) -> u32
     ensures few { result ≤ 128 }
 {
     set.common(plane).count()
+}
+
+/// Whether there is one plane, and that plane.
+pub(crate) fn only_of(planes: &[Mask]) -> (bool, Mask)
+    ensures { result.0 ≡ true → (m : Code) (u : ℕ) → ArePlanes m planes.now
+        → count_ones (bit_and u result.1) ≡ cost m u }
+{
+    if planes.len() == 1 {
+        (true, planes[0])
+    } else {
+        (false, Mask::EMPTY)
+    }
 }

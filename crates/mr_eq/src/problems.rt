@@ -1,4 +1,4 @@
-ghost use Rattle.std.specs.Prelude.{◌≡◌, ℕ, ◌^◌, ◌<◌, ◌≤◌, length, bit_and, bit_or, count_ones, fold, nat_lt, IfOk, IfErr, OnOk, Some, true, if◌then◌else◌};
+ghost use Rattle.std.specs.Prelude.{◌≡◌, ℕ, ◌^◌, ◌<◌, ◌≤◌, ◌/◌, length, bit_and, bit_or, count_ones, fold, max, nat_lt, IfOk, IfErr, OnOk, Some, true, if◌then◌else◌};
 ghost use Rattle.std.specs.Int.{bit_at};
 ghost use Rattle.mr_model.specs.Members.{members};
 ghost use Rattle.mr_model.specs.Code.{cost, dropped, has_equation, kept_equation, nulls, plain, undetermined};
@@ -6,7 +6,7 @@ ghost use Rattle.mr_model.specs.Laws.{IsLean};
 ghost use Rattle.mr_bits.specs.Matrices.{greatest_cost};
 ghost use Rattle.mr_eq.specs.Problems.{Loss, IsLoss, IsUndetermined, target_at, problem_of, base_list};
 
-use crate::planes::{cost_by, planes_of};
+use crate::planes::{cost_by, only_of, planes_of};
 use arrayvec::ArrayVec;
 use mr_bits::{Mask, Matrix};
 use mr_null::{Basis, Nulls, NullsError};
@@ -123,6 +123,21 @@ impl Problem {
         ensures few { result ≤ greatest_cost }
     {
         cost_by(&self.planes, set)
+    }
+
+    /// Whether one plane tells what each set costs, and that plane.
+    pub(crate) fn only_plane(&self) -> (bool, Mask)
+        ensures { result.0 ≡ true
+            → (u : ℕ) → count_ones (bit_and u result.1) ≡ cost self.now.code u }
+    {
+        only_of(&self.planes)
+    }
+
+    /// The mean price of a survivor, rounded down; 0 where there is no survivor.
+    pub(crate) fn mean_price(&self) -> u32
+        ensures { result ≡ cost self.now.code self.now.avail / max 1 (count_ones self.now.avail) }
+    {
+        self.cost(self.avail) / self.avail.count().max(1)
     }
 
     /// The sets of survivors whose sum is zero, where they are at most `most`.
