@@ -11,7 +11,7 @@ use Rattle.mr_eq.specs.Problems.{Loss}
 use Rattle.mr_front.specs.Waiting.{mask_cost}
 use Rattle.mr_front.specs.Children.{AppendsPrefix}
 
-map-append : (f : ℕ → ℕ) (xs ys : List ℕ) → map f (xs ++ ys) ≡ map f xs ++ map f ys
+pub map-append : (f : ℕ → ℕ) (xs ys : List ℕ) → map f (xs ++ ys) ≡ map f xs ++ map f ys
 map-append f [] ys = refl
 map-append f (x ∷ xs) ys = ap (λ (vs : List ℕ). f x ∷ vs) (map-append f xs ys)
 
@@ -21,21 +21,6 @@ kept_unions p v bound es = filter (λ u. nat_le (mask_cost p u) bound) (map (bit
 
 unions-append : (p : Loss) (v bound : ℕ) (xs ys : List ℕ) → kept_unions p v bound (xs ++ ys) ≡ kept_unions p v bound xs ++ kept_unions p v bound ys
 unions-append p v bound xs ys = ap (filter (λ u. nat_le (mask_cost p u) bound)) (map-append (bit_or v) xs ys) ∙ filter-append (λ u. nat_le (mask_cost p u) bound) (map (bit_or v) xs) (map (bit_or v) ys)
-
--- the children by one more equation
-module _ (p : Loss) (v bound : ℕ) (es : List ℕ) (i n x : ℕ) (low : i < length es) (item : x ≡ get_or es i 0) (next : n ≡ suc i) where
-  one-more : kept_unions p v bound (take n es) ≡ kept_unions p v bound (take i es) ++ kept_unions p v bound (x ∷ [])
-  one-more =
-      ap (λ m. kept_unions p v bound (take m es)) next
-      ∙ ap (kept_unions p v bound) (take-suc es i 0 low ∙ ap (λ y. take i es ++ y ∷ []) (sym item)) ∙ unions-append p v bound (take i es) (x ∷ [])
-
-  pub kept-more : mask_cost p (bit_or v x) ≤ bound → kept_unions p v bound (take n es) ≡ kept_unions p v bound (take i es) ++ bit_or v x ∷ []
-  kept-more few = one-more ∙ ap (λ b. kept_unions p v bound (take i es) ++ cond b (bit_or v x ∷ []) []) (le-leb (mask_cost p (bit_or v x)) bound few)
-
-  pub kept-same : bound < mask_cost p (bit_or v x) → kept_unions p v bound (take n es) ≡ kept_unions p v bound (take i es)
-  kept-same many =
-      one-more ∙ ap (λ b. kept_unions p v bound (take i es) ++ cond b (bit_or v x ∷ []) []) (lt-leb (mask_cost p (bit_or v x)) bound many)
-      ∙ append-nil (kept_unions p v bound (take i es))
 
 module _ (p : Loss) (v bound : ℕ) (es : List ℕ) (old now : List ℕ) (i x : ℕ) (low : i < length es) (item : x ≡ get_or es i 0)
     (done : now ≡ old ++ kept_unions p v bound (take i es)) where

@@ -9,9 +9,13 @@ pub mod FirstLaws
 pub mod AddLaws
 pub mod FrontierLaws
 pub mod ChildLaws
+pub mod MapLaws
+pub mod RowLaws
+pub mod RowsLaws
+pub mod JoinLaws
+pub mod ScanLaws
 pub mod SearchSteps
 pub mod UnionLaws
 pub mod LossSteps
 pub mod SearchAnswers
-pub mod GroupLaws
 pub mod FoundLaws

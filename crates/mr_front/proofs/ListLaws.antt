@@ -14,7 +14,7 @@ use Rattle.mr_front.specs.Lists.{Lists, key_cmp, items_of, masks_at, IsTidy, bel
 
 -- ---- keys
 
-cmp-equal : (x y : ℕ) → is_eq (nat_cmp x y) ≡ (x == y)
+pub cmp-equal : (x y : ℕ) → is_eq (nat_cmp x y) ≡ (x == y)
 cmp-equal x y = ⊎_elim
     (λ (same : x ≡ y). go (nat_lt x y) (x == y) (lt-leb (suc x) y (omega arith)) (eq-eqb x y same))
     (λ (other : x ≡ y → ⊥). ne (nat_lt x y) (x == y) (ne_eqb x y other))

@@ -1,17 +1,17 @@
--- The search of a loss by a frontier: its layers are those of the search, and what is answered is the choice.
-use Rattle.std.proofs.Common.{◌≡◌, ℕ, ◌+◌, ◌<◌, ◌≤◌, true, cond, List, [], ◌∷◌, length, get_or, inl, inr, refl, sym, ◌∙◌, arith, ap, ap₂, subst, ⊎_elim, add-one}
-use Rattle.std.specs.Prelude.{◌↔◌}
+-- The search of a loss, whatever keeps the masks that wait: its layers are those of the search, and what is answered is the choice.
+use Rattle.std.proofs.Common.{◌≡◌, ℕ, suc, ◌+◌, ◌<◌, ◌≤◌, true, cond, List, [], ◌∷◌, length, get_or, inl, inr, refl, sym, ◌∙◌, arith, ap, ap₂, subst, ⊎_elim, add-one}
+use Rattle.std.specs.Prelude.{◌↔◌, bit_or}
 use Rattle.std.specs.List.{Contains}
 use Rattle.std.proofs.lemmas.Bool.{le-leb, lt-leb}
 use Rattle.mr_model.specs.Sets.{within}
 use Rattle.mr_model.specs.Members.{members}
 use Rattle.mr_model.specs.Code.{cost, plain}
-use Rattle.mr_model.specs.Search.{Least, Spent, choice, least_cost, best, work}
+use Rattle.mr_model.specs.Search.{Search, Least, Spent, is_node, is_good, choice, least_cost, best, work}
 use Rattle.mr_model.specs.Choice.{choice_of}
 use Rattle.mr_model.proofs.SetLaws.{Within-zero, within-true}
-use Rattle.mr_model.proofs.CheapestLaws.{cost-le}
-use Rattle.mr_model.proofs.SearchLaws.{good-true, node-good}
-use Rattle.mr_model.proofs.BestLaws.{best-from, least_cost-le}
+use Rattle.mr_model.proofs.CheapestLaws.{IsCost, cost-le}
+use Rattle.mr_model.proofs.SearchLaws.{good-true, node-or, node-good}
+use Rattle.mr_model.proofs.BestLaws.{best-from, best-cost, best-node, least_cost-le}
 use Rattle.mr_model.proofs.WorkBounds.{work-ge, work-none}
 use Rattle.mr_eq.specs.Problems.{Loss, IsLoss, search_for}
 use Rattle.mr_eq.specs.Equations.{width_of}
@@ -21,10 +21,9 @@ use Rattle.mr_eq.specs.declared.found.Found.TheVariants.{Least as FoundLeast, Sp
 use Rattle.mr_eq.proofs.Losses.{loss-cost, loss-good}
 use Rattle.mr_eq.proofs.LossLaws.{plain-node-law}
 use Rattle.mr_front.specs.declared.layers.Layer.{Layer}
-use Rattle.mr_front.specs.Waiting.{mask_cost, WaitsToo}
-use Rattle.mr_front.specs.Layers.{IsFirstLayer, IsRest}
-use Rattle.mr_front.specs.Children.{children}
-use Rattle.mr_front.proofs.LayerLaws.{IsLeastKey, IsNext}
+use Rattle.mr_front.specs.Waiting.{mask_cost}
+use Rattle.mr_front.specs.Layers.{IsFirstLayer, IsRest, IsSomeChild, HasJoined, HasLost}
+use Rattle.mr_front.proofs.LayerLaws.{IsFrontier, IsLeastKey, IsNext, empty-cost}
 use Rattle.mr_front.proofs.LayerSteps.{IsStart}
 use Rattle.mr_front.proofs.Counts.{IsLayerList}
 use Rattle.mr_front.proofs.UnionLaws.{IsChildOf, contains-children, children-contains}
@@ -71,39 +70,54 @@ module _ (p : Loss) (h : IsLoss p) where
       priced = λ u there. (layer-mask u there).1;
     }
 
-    pub layer-next : (middle later : ℕ → ℕ → Type 0) (bound : ℕ) → l.level < length (members p.targets) → IsRest p waits middle l
-        → WaitsToo middle later (l.level + 1) (children p l.level bound l.masks) → IsNext (search_for p) waits later l.cost l.level bound
-    layer-next middle later bound low rest too = record {
-      only = λ i u w. ⊎_elim
-          (λ (old : middle i u). let t = (rest i u).0 old in inl (t.0, λ at cost. t.1 at cost))
-          (λ (new : (i ≡ l.level + 1) × Contains (children p l.level bound l.masks) u).
-          let c = children-contains p h l.level bound low l.masks u new.1 in
-          inr (
-            new.0 ∙ add-one l.level,
-            record {
-              mask = c.mask;
-              equation = c.equation;
-              waiting = (layer-mask c.mask c.among).0;
-              priced = (layer-mask c.mask c.among).1;
-              equation_inside = c.inside;
-              is_equation = c.equals;
-              union = c.union;
-            },
-          ))
-          ((too i u).0 w);
-      stays = λ i u w apart. (too i u).1 (inl ((rest i u).1 (w, apart)));
-      joins = λ u made few.
-          let child : IsChildOf p l.level bound l.masks u = record {
-            mask = made.mask;
-            equation = made.equation;
-            among = (first.masks made.mask).1 (made.waiting, made.priced);
-            inside = made.equation_inside;
-            equals = made.is_equation;
-            union = made.union;
-            cheap = few;
-          } in
-          subst (λ (i : ℕ). later i u) (add-one l.level) ((too (l.level + 1) u).1 (inr (refl, contains-children p h l.level bound low l.masks u child)));
-    }
+    module _ (low : l.level < length (members p.targets)) where
+      -- a child is a node of the next level
+      child-node : (u : ℕ) → IsSomeChild p l u → is_node (search_for p) (suc l.level) u ≡ true
+      child-node u child =
+          let c = children-contains p h l.level child.0 low l.masks u child.1 in
+          subst (λ w. is_node (search_for p) (suc l.level) w ≡ true) c.union
+          (node-or (search_for p) l.level c.mask c.equation (searched.frontier.nodes l.level c.mask (layer-mask c.mask c.among).0) c.inside c.equals)
+
+      -- where the next level is the last, a child costs at least the least cost
+      pub child-floor : l.level + 1 ≡ length (members p.targets) → (u : ℕ) → IsSomeChild p l u → least_cost (search_for p) ≤ mask_cost p u
+      child-floor last u child =
+          let node = subst (λ i. is_node (search_for p) i u ≡ true) (sym (add-one l.level) ∙ last) (child-node u child) in
+          least_cost-le (search_for p) (loss-cost p h) (loss-good p h) u (node-good (search_for p) u node)
+
+      -- what waits after the layer, once its children joined
+      pub layer-next : (middle later : ℕ → ℕ → Type 0) (bound : ℕ) → IsRest p waits middle l → HasJoined p l bound middle later
+          → IsNext (search_for p) waits later l.cost l.level bound
+      layer-next middle later bound rest joined = record {
+        only = λ i u w. ⊎_elim
+            (λ (old : middle i u). let t = (rest i u).0 old in inl (t.0, λ at cost. t.1 at cost))
+            (λ (new : (i ≡ l.level + 1) × IsSomeChild p l u).
+            let c = children-contains p h l.level new.1.0 low l.masks u new.1.1 in
+            inr (
+              new.0 ∙ add-one l.level,
+              record {
+                mask = c.mask;
+                equation = c.equation;
+                waiting = (layer-mask c.mask c.among).0;
+                priced = (layer-mask c.mask c.among).1;
+                equation_inside = c.inside;
+                is_equation = c.equals;
+                union = c.union;
+              },
+            ))
+            (joined.only i u w);
+        stays = λ i u w apart. joined.stays i u ((rest i u).1 (w, apart));
+        joins = λ u made few.
+            let child : IsChildOf p l.level bound l.masks u = record {
+              mask = made.mask;
+              equation = made.equation;
+              among = (first.masks made.mask).1 (made.waiting, made.priced);
+              inside = made.equation_inside;
+              equals = made.is_equation;
+              union = made.union;
+              cheap = few;
+            } in
+            subst (λ (i : ℕ). later i u) (add-one l.level) (joined.joins u (contains-children p h l.level bound low l.masks u child));
+      }
 
   -- ---- what is answered
 
@@ -141,3 +155,35 @@ module _ (p : Loss) (h : IsLoss p) where
         cheapest = λ y k e. cost-le p.avail (cost p.code) (loss-cost p h) 0 y (inside y) k;
         first = λ y k e c. omega arith;
       })
+
+-- ---- some of what waits is lost
+
+module _ (q : Search) (priced : IsCost q.avail q.cost_of) (determined : is_good q q.avail ≡ true) (waits later : ℕ → ℕ → Type 0)
+    (only : (i u : ℕ) → later i u → waits i u) (keeps : (i u : ℕ) → waits i u → q.cost_of u ≤ least_cost q → later i u) where
+  -- a frontier may lose what costs more than the least cost
+  frontier-lost : (c j : ℕ) → IsFrontier q waits c j → IsFrontier q later c j
+  frontier-lost c j h = record {
+    level_le = λ i u w. h.level_le i u (only i u w);
+    nodes = λ i u w. h.nodes i u (only i u w);
+    ahead = λ i u w. h.ahead i u (only i u w);
+    start = λ from. keeps 0 0 (h.start from)
+        (subst (λ e. q.cost_of 0 ≤ e) (best-cost q priced determined) (empty-cost q priced q.levels (best q) (best-node q priced determined)));
+    children = λ i v x node before level inside equation few from.
+        keeps (suc i) (bit_or v x) (h.children i v x node before level inside equation few from) few;
+  }
+
+  searched-lost : (spent : ℕ) → IsSearched q waits spent → IsSearched q later spent
+  searched-lost spent h = record {
+    cost_at = h.cost_at;
+    level_at = h.level_at;
+    frontier = frontier-lost h.cost_at h.level_at h.frontier;
+    ahead = h.ahead;
+    spent_is = h.spent_is;
+  }
+
+-- where all up to a bound still waits, which is at least the least cost
+pub lost-searched : (p : Loss) → IsLoss p → (waits later : ℕ → ℕ → Type 0) (spent most : ℕ) → IsSearched (search_for p) waits spent
+    → least_cost (search_for p) ≤ most → HasLost p most waits later → IsSearched (search_for p) later spent
+lost-searched p h waits later spent most searched high lost =
+    searched-lost (search_for p) (loss-cost p h) (loss-good p h) waits later lost.only
+    (λ i u w le. lost.keeps i u w (omega (arith, le, high))) spent searched

@@ -5,17 +5,16 @@ use Rattle.std.proofs.lemmas.Bool.{leb-true, leb-false}
 use Rattle.mr_model.specs.Members.{members}
 use Rattle.mr_model.specs.Code.{plain}
 use Rattle.mr_eq.specs.Problems.{Loss, IsLoss, search_for}
+use Rattle.mr_model.specs.Search.{least_cost}
 use Rattle.mr_eq.specs.Equations.{width_of}
 use Rattle.mr_eq.specs.declared.found.Found.TheVariants.{Least as FoundLeast, Spent as FoundSpent}
 use Rattle.mr_null.specs.declared.nulls.NullsError.{NullsError}
 use Rattle.mr_null.specs.declared.nulls.NullsError.TheVariants.{TooMany, Memory}
 use Rattle.mr_eq.proofs.Losses.{loss-cost, loss-good}
 use Rattle.mr_front.specs.declared.layers.Layer.{Layer}
-use Rattle.mr_front.specs.Waiting.{mask_cost, WaitsToo}
-use Rattle.mr_front.specs.Layers.{IsFirstLayer, IsRest}
-use Rattle.mr_front.specs.Children.{children}
+use Rattle.mr_front.specs.Layers.{IsFirstLayer, IsRest, HasJoined}
 use Rattle.mr_front.proofs.SearchSteps.{IsSearched, searched_waits, layer_level, layer_within, searched_next, found_best, found_work}
-use Rattle.mr_front.proofs.LossSteps.{plain-bound, layer-key, layer-list, layer-next, found, found-least, found-spent}
+use Rattle.mr_front.proofs.LossSteps.{layer-key, layer-list, layer-next, found, found-least, found-spent}
 
 -- the number, where it is at most the budget
 abbrev pub up_to : ℕ → ℕ → Option ℕ
@@ -73,15 +72,14 @@ module _ (p : Loss) (h : IsLoss p) (waits : ℕ → ℕ → Type 0) (spent : ℕ
           found-spent p h budget s e (omega (arith, none-above budget (spent + n * w) above, product, part))
 
       -- after a layer whose children joined
-      pub next-searched : (middle later : ℕ → ℕ → Type 0) (budget bound more : ℕ) → bound ≡ mask_cost p (plain p.code p.avail p.targets) → IsRest p waits middle l
-          → WaitsToo middle later (l.level + 1) (children p l.level bound l.masks) → Some more ≡ up_to budget (spent + n * w)
-          → IsSearched (search_for p) later more × (more ≤ budget)
-      next-searched middle later budget bound more cost_is rest too within =
+      pub next-searched : (middle later : ℕ → ℕ → Type 0) (budget bound more : ℕ) → least_cost (search_for p) ≤ bound → IsRest p waits middle l
+          → HasJoined p l bound middle later → Some more ≡ up_to budget (spent + n * w) → IsSearched (search_for p) later more × (more ≤ budget)
+      next-searched middle later budget bound more high rest joined within =
           let key = layer-key p h waits spent searched l first in
           let list = layer-list p h waits spent searched l first in
           let t = some-within budget (spent + n * w) more within in (
             subst (λ (m : ℕ). IsSearched (search_for p) later m) (sym (t.0 ∙ product))
                 (searched_next (search_for p) (loss-cost p h) (loss-good p h) waits spent searched l.cost l.level key l.masks list low later bound
-                (layer-next p h waits spent searched l first middle later bound low rest too) (plain-bound p h bound cost_is)),
+                (layer-next p h waits spent searched l first low middle later bound rest joined) high),
             omega (arith, t.0, t.1),
           )

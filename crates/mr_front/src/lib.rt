@@ -2,10 +2,12 @@
 #![tactic(auto)]
 
 mod children;
+mod cost_lists;
 mod frontier;
-mod groups;
 mod layers;
 mod masks;
+mod row;
+mod rows;
 mod search;
 mod waiting;
 
@@ -13,4 +15,6 @@ pub use children::expand;
 pub use frontier::Frontier;
 pub use layers::Layer;
 pub use masks::Masks;
-pub use search::search_one;
+pub use row::Made;
+pub use rows::Rows;
+pub use search::{search_one, work_with};

@@ -5,12 +5,12 @@ ghost use Rattle.mr_model.specs.Laws.{IsLean};
 ghost use Rattle.mr_eq.specs.Choices.{found_of};
 ghost use Rattle.mr_eq.specs.Laws.{IsWorkBounded};
 ghost use Rattle.mr_front.specs.Searches.{set_of, IsFoundWithin};
-ghost use Rattle.mr_front.specs.Waiting.{Waits, WaitsToo};
-ghost use Rattle.mr_front.specs.Children.{children};
+ghost use Rattle.mr_front.specs.Rows.{InRows, LateIn, row_count};
+ghost use Rattle.mr_front.specs.Layers.{IsFirstLayer, IsRest, IsFirstKey, HasJoined};
 
-use crate::frontier::Frontier;
-use crate::groups::{add_groups, group_children, new_groups};
 use crate::layers::Layer;
+use crate::masks::Masks;
+use crate::rows::Rows;
 use mr_bits::{Mask, NoMemory};
 use mr_eq::{Equations, Found, Problem};
 use mr_null::NullsError;
@@ -56,8 +56,8 @@ fn find(alloc: Global, problem: &Problem, budget: u32) -> Result<Found, NoMemory
     }
 }
 
-/// The choice for a problem whose equations are listed: it takes one layer after another, until one has masks that have
-/// an equation of each target, or the work is above `budget`.
+/// The choice for a problem whose equations are listed: it takes one layer after another, until one
+/// has masks that have an equation of each target, or the work is above `budget`.
 fn search_layers(
     alloc: Global,
     problem: &Problem,
@@ -71,10 +71,11 @@ fn search_layers(
     let width = equations.width();
     let levels = problem.levels();
     let plain = problem.plain();
-    let bound = problem.cost(plain);
-    let mut frontier = Frontier::new(alloc, problem)?;
+    let most = u64::from(problem.cost(plain));
+    let mut rows = Rows::start(alloc, levels)?;
     let mut work = 0;
-    while let Some(layer) = frontier.take_layer() {
+    while let Some(key) = rows.first_key(equations, levels, most)? {
+        let layer = take_layer(alloc, equations, key.0, key.1, &mut rows)?;
         if layer.level >= levels {
             return Ok(Found::Least {
                 set: layer.masks.get(0),
@@ -85,13 +86,38 @@ fn search_layers(
             return Ok(Found::Spent { set: plain });
         };
         work = more;
-        expand_layer(alloc, equations, &layer, bound, &mut frontier)?;
+        expand_layer(equations, &layer, most, &mut rows)?;
     }
     unreachable!()
 }
 
-/// The work with that of a layer of `masks` masks, each united with `width` equations. None where it is above `budget`.
-fn work_with(work: u32, masks: usize, width: u32, budget: u32) -> Option<u32>
+/// Takes the first layer, whose masks have this cost and level.
+fn take_layer(
+    alloc: Global,
+    equations: &Equations,
+    cost: u32,
+    level: u8,
+    rows: &mut Rows,
+) -> Result<Layer, NoMemory>
+    requires { IsFirstKey equations.now (InRows equations.now rows.old) (LateIn rows.old)
+        cost level }
+    ensures count { row_count rows.new ≡ row_count rows.old }
+    ensures layer { IfOk result (IsFirstLayer equations.now (InRows equations.now rows.old)) }
+    ensures rest { IfOk result (IsRest equations.now (InRows equations.now rows.old)
+        (InRows equations.now rows.new)) }
+{
+    let mut list = Vec::new(alloc);
+    rows.take(equations, cost, level, &mut list)?;
+    Ok(Layer {
+        cost,
+        level,
+        masks: Masks::distinct(list),
+    })
+}
+
+/// The work with that of a layer of `masks` masks, each united with `width` equations. None where it
+/// is above `budget`.
+pub fn work_with(work: u32, masks: usize, width: u32, budget: u32) -> Option<u32>
     ensures { result ≡ (if nat_le (work + masks * width) budget then Some (work + masks * width) else None) }
 {
     let more = u128::from(work) + masks as u128 * u128::from(width);
@@ -102,26 +128,22 @@ fn work_with(work: u32, masks: usize, width: u32, budget: u32) -> Option<u32>
     }
 }
 
-/// Lets the children of the masks of a layer wait at the next level, except those that cost more than `bound`.
-///
-/// The children of each mask are put into groups by their cost, so that the frontier takes those of one cost together.
+/// Lets the children of the masks of a layer wait at the next level, except those that cost more
+/// than `most`.
 fn expand_layer(
-    alloc: Global,
     equations: &Equations,
     layer: &Layer,
-    bound: u32,
-    frontier: &mut Frontier,
+    most: u64,
+    rows: &mut Rows,
 ) -> Result<(), NoMemory>
-    requires { layer.now.level < length (members equations.now.targets) }
-    ensures loss { frontier.new.loss ≡ frontier.old.loss }
-    ensures added { OnOk result (WaitsToo (Waits frontier.old) (Waits frontier.new) (layer.now.level + 1)
-        (children equations.now layer.now.level bound layer.now.masks)) }
+    requires level { layer.now.level < length (members equations.now.targets) }
+    requires count { row_count rows.old ≡ length (members equations.now.targets) + 1 }
+    ensures count { row_count rows.new ≡ row_count rows.old }
+    ensures joined { OnOk result (HasJoined equations.now layer.now most
+        (InRows equations.now rows.old) (InRows equations.now rows.new)) }
 {
-    let mut groups = new_groups(alloc)?;
     for place in 0..layer.masks.len() {
-        let mask = layer.masks.get(place);
-        group_children(equations, layer.level, mask, bound, &mut groups)?;
-        add_groups(&mut groups, layer.level + 1, frontier)?;
+        rows.join(equations, layer, place, most)?;
     }
     Ok(())
 }

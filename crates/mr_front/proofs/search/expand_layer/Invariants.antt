@@ -1,13 +1,10 @@
-use Rattle.std.proofs.Common.{◌≡◌, ◌+◌, length, take}
-use Rattle.mr_front.specs.Waiting.{Waits, WaitsToo}
-use Rattle.mr_front.specs.Children.{children}
-use Rattle.mr_front.specs.Groups.{HasNone}
+use Rattle.std.proofs.Common.{◌≡◌}
+use Rattle.mr_front.specs.Rows.{InRows, row_count}
+use Rattle.mr_front.proofs.JoinLaws.{IsExpanded}
 use Rattle.mr_front.proofs.search.expand_layer.Given as goal
 
 abbrev pub invariant-loop-place : goal.invariant-loop-place
 invariant-loop-place l = record {
-  loss : l.frontier.loss ≡ l.fn.frontier.loss;
-  added : WaitsToo (Waits l.fn.frontier) (Waits l.frontier) (l.layer.level + 1) (children l.equations l.layer.level l.bound (take l.place l.layer.masks));
-  none : HasNone l.groups.items;
-  room : length l.groups.items ≡ 129;
+  count : row_count l.rows ≡ row_count l.fn.rows;
+  expanded : IsExpanded l.equations l.layer l.most l.place (InRows l.equations l.fn.rows) (InRows l.equations l.rows);
 }
