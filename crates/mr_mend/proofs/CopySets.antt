@@ -15,7 +15,8 @@ use Rattle.mr_model.proofs.Finding.{set_below-lt, bit_at_set_below, bit_at_set_a
 use Rattle.mr_image.specs.Images.{Layout, stripe_symbols, equation_of, Covers}
 use Rattle.mr_plan.proofs.MemberLists.{members-All, members-Any}
 use Rattle.mr_mend.specs.Mending.{has_recipe, copied_set}
-use Rattle.mr_mend.proofs.Lists.{symbols_of, symbol_at}
+use Rattle.mr_plan.specs.PlanLists.{symbols_of}
+use Rattle.mr_mend.proofs.Lists.{symbol_at}
 use Rattle.mr_mend.proofs.Turns.{has_recipe-stands}
 
 -- ---- as the code finds it
@@ -29,6 +30,15 @@ has_recipe-any (r ∷ recipes) i = go (r.symbol == i) (has_recipe-any recipes i)
         → (b || list_any (λ (q : Recipe). q.symbol == i) recipes) ≡ is_some (cond b (Some r.equation) (equation_of recipes i))
     go true more = refl
     go false more = more
+
+-- recipes of the same symbols have the same answers
+tests_of : (recipes : List Recipe) (i : ℕ) → list_any (λ (r : Recipe). r.symbol == i) recipes ≡ list_any (λ t. t == i) (symbols_of recipes)
+tests_of [] i = refl
+tests_of (r ∷ recipes) i = ap (λ b. r.symbol == i || b) (tests_of recipes i)
+
+pub has_recipe-same : (recipes others : List Recipe) (i : ℕ) → symbols_of recipes ≡ symbols_of others → has_recipe recipes i ≡ has_recipe others i
+has_recipe-same recipes others i same =
+    sym (has_recipe-any recipes i) ∙ tests_of recipes i ∙ ap (λ xs. list_any (λ t. t == i) xs) same ∙ sym (tests_of others i) ∙ has_recipe-any others i
 
 -- the symbols below n that are copied
 abbrev pub copied_below : List Recipe → ℕ → ℕ

@@ -3,6 +3,7 @@ pub mod Adding
 pub mod Lists
 pub mod Subsets
 pub mod Mendable
+pub mod Planned
 pub mod Progress
 pub mod Places
 pub mod Putting

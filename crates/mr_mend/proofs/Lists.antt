@@ -5,7 +5,9 @@ use Rattle.std.proofs.lemmas.List.{get_or_default, length-map}
 use Rattle.std.proofs.Math.Nat.{mul-le-mul}
 use Rattle.mr_model.specs.Plans.{Recipe}
 use Rattle.mr_plan.specs.Plans.{AreUpward}
+use Rattle.mr_plan.specs.PlanLists.{symbols_of}
 use Rattle.mr_image.specs.Images.{Layout, stripe_symbols, equation_of}
+use Rattle.mr_image.specs.declared.limits.TheConstants.{SYMBOL_LIMIT}
 use Rattle.mr_mend.specs.Mending.{IsUpwards}
 
 -- what is the same of each item is the same in all
@@ -19,10 +21,6 @@ test_false a b h = go (a == b) refl
     go : (t : Bool) → (a == b) ≡ t → t ≡ false
     go true e = absurd (omega (arith, eqb-true a b e, h))
     go false e = refl
-
--- the symbols of a list of recipes
-abbrev pub symbols_of : List Recipe → List ℕ
-symbols_of recipes = map (λ r. r.symbol) recipes
 
 pub symbol_at : (recipes : List Recipe) (k : ℕ) (d : Recipe) → k < length recipes → get_or (symbols_of recipes) k 0 ≡ (get_or recipes k d).symbol
 symbol_at recipes k d low =
@@ -56,6 +54,6 @@ upward-few a (r ∷ recipes) up low =
     omega (arith, rest, up.0.later)
 
 -- the bytes of one symbol for each recipe of a plan
-pub recipes-fit : (recipes given : List Recipe) (bytes size : ℕ) → given ≡ recipes → AreUpward 0 recipes → size ≡ bytes → bytes ≤ 65536 → length given * size ≤ 128 * 65536
+pub recipes-fit : (recipes given : List Recipe) (bytes size : ℕ) → given ≡ recipes → AreUpward 0 recipes → size ≡ bytes → bytes ≤ SYMBOL_LIMIT → length given * size ≤ 128 * SYMBOL_LIMIT
 recipes-fit recipes given bytes size same up is few =
-    mul-le-mul {n₂ = 128} {m₂ = 65536} (omega (arith, ap length same, upward-few 0 recipes up (omega arith))) (omega (arith, is, few))
+    mul-le-mul {n₂ = 128} {m₂ = SYMBOL_LIMIT} (omega (arith, ap length same, upward-few 0 recipes up (omega arith))) (omega (arith, is, few))

@@ -7,6 +7,7 @@ use Rattle.mr_model.specs.Members.{members}
 use Rattle.mr_model.specs.Code.{Code}
 use Rattle.mr_model.specs.Plans.{Recipe, IsValidPlan}
 use Rattle.mr_model.proofs.SetLaws.{member-below}
+use Rattle.mr_model.proofs.Loops.{members-few}
 use Rattle.mr_plan.proofs.MemberLists.{members-All}
 use Rattle.mr_plan.specs.Plans.{PlanParts}
 use Rattle.mr_image.specs.Images.{Layout, stripe_symbols}
@@ -42,18 +43,6 @@ From-upwards a (x ∷ xs) h zero zero lt low = absurd (omega arith)
 From-upwards a (x ∷ xs) h zero (suc k) lt low = omega (arith, From-least (x + 1) xs k h.1 (omega (arith, low)))
 From-upwards a (x ∷ xs) h (suc j) zero lt low = absurd (omega arith)
 From-upwards a (x ∷ xs) h (suc j) (suc k) lt low = From-upwards (x + 1) xs h.1 j k (omega (arith, lt)) (omega (arith, low))
-
-few_cond : (c : Bool) (a n : ℕ) (xs : List ℕ) → length xs ≤ n → length (cond c (a ∷ xs) xs) ≤ suc n
-few_cond true a n xs h = omega (arith, h)
-few_cond false a n xs h = omega (arith, h)
-
-few_range : (x n a : ℕ) → length (filter (has x) (range_with_len a n)) ≤ n
-few_range x zero a = omega arith
-few_range x (suc n) a = few_cond (has x a) a n (filter (has x) (range_with_len (a + 1) n)) (few_range x n (a + 1))
-
-members-few : (x : ℕ) → length (members x) ≤ 128
-unfolding members
-members-few x = few_range x 128 0
 
 members-upwards : (x : ℕ) → IsUpwards (members x)
 unfolding members

@@ -5,7 +5,8 @@ use Rattle.std.proofs.lemmas.List.{get_or_default, length-map}
 use Rattle.mr_model.specs.Plans.{Recipe}
 use Rattle.mr_image.specs.Images.{Layout, stripe_symbols, image_of}
 use Rattle.mr_mend.specs.Mending.{IsUpwards, PutsSymbols}
-use Rattle.mr_mend.proofs.Lists.{symbols_of, symbol_at}
+use Rattle.mr_plan.specs.PlanLists.{symbols_of}
+use Rattle.mr_mend.proofs.Lists.{symbol_at}
 use Rattle.mr_mend.proofs.Places.{IsPut}
 
 -- the symbols of the first n recipes stand at their places, the other stripes and the head are as before

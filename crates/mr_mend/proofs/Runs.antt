@@ -18,7 +18,7 @@ use Rattle.mr_image.specs.Images.{Layout, stripe_symbols, image_of, place}
 use Rattle.mr_image.specs.Heads.{file_bytes}
 use Rattle.mr_image.proofs.HeadLaws.{place-within}
 use Rattle.mr_mend.specs.Mending.{HoldsRun, KeepsBesides, IsRunEnd}
-use Rattle.mr_mend.proofs.Places.{part-here, part-other, stripe-before, length-part}
+use Rattle.mr_image.proofs.Places.{part-here, part-other, stripe-before, length-part}
 use borrow.Rule.Slice.PartMut.{put_mid}
 
 -- ---- parts of parts

@@ -13,10 +13,11 @@ use Rattle.mr_mend.specs.declared.asks.Ask.{Ask}
 use Rattle.mr_mend.specs.declared.asks.ScriptFault.{ScriptFault}
 use Rattle.mr_mend.specs.declared.asks.ScriptFault.TheVariants.{Line, Memory, Large as TooLarge}
 use Rattle.mr_text.specs.Lines.{pieces}
-use Rattle.mr_mend.specs.Scripts.{IsInRange, HasFirstBadLine, HasLargeReplies, asked, ask_of, joined, asks_from, reply_limit, ask_text, ask_line, script_text}
+use Rattle.mr_mend.specs.declared.limits.TheConstants.{REPLY_LIMIT}
+use Rattle.mr_mend.specs.Scripts.{IsInRange, HasFirstBadLine, HasLargeReplies, ask_at, ask_of, ask_before, asks_from, asks_of, ask_text, ask_line, script_text}
 use Rattle.mr_text.proofs.LineLaws.{pieces-first, pieces-one}
 use Rattle.mr_mend.proofs.ScriptLines.{from-ended, from-nothing, from-unended}
-use Rattle.mr_mend.proofs.ScriptTexts.{ask-printed, asks-text, line-spelled, pieces-printed}
+use Rattle.mr_mend.proofs.ScriptTexts.{ask-printed, asks-text, line-spelled, pieces-printed, unless_large-ok}
 
 abbrev Answer : Type 0
 Answer = Result (List Ask) ScriptFault
@@ -26,10 +27,10 @@ same-line n k e = cc
 
 module _ (l : Layout) where
   -- what a line spells is in range
-  asked-range : (o p : Option ℕ) (ask : Ask) → asked l o p ≡ Some ask → IsInRange l ask
-  asked-range None p ask e = cc
-  asked-range (Some s) None ask e = cc
-  asked-range (Some s) (Some i) ask e = go (nat_lt s l.stripes) (nat_lt i (stripe_symbols l)) refl refl e
+  ask_at-range : (o p : Option ℕ) (ask : Ask) → ask_at l o p ≡ Some ask → IsInRange l ask
+  ask_at-range None p ask e = cc
+  ask_at-range (Some s) None ask e = cc
+  ask_at-range (Some s) (Some i) ask e = go (nat_lt s l.stripes) (nat_lt i (stripe_symbols l)) refl refl e
     where
       made : Ask
       made = record { stripe = s; symbol = i }
@@ -43,7 +44,30 @@ module _ (l : Layout) where
 
   ask-range : (line : List ℕ) (ask : Ask) → ask_of l line ≡ Some ask → IsInRange l ask
   unfolding ask_of
-  ask-range line ask h = asked-range _ _ ask h
+  ask-range line ask h = ask_at-range _ _ ask h
+
+  -- what lines ask for is in range
+  from-range : (ps : List (List ℕ)) (n : ℕ) (asks : List Ask) → asks_from l n ps ≡ Ok asks → All (IsInRange l) asks
+  unfolding asks_from
+  from-range [] n asks h = let none : [] ≡ asks = cc in subst (All (IsInRange l)) none (All-nil (IsInRange l))
+  from-range (last ∷ []) n asks h = go (length last == 0) h
+    where
+      go : (t : Bool) → cond t (Ok []) (Err (Line n)) ≡ Ok asks → All (IsInRange l) asks
+      go true is = let none : [] ≡ asks = cc in subst (All (IsInRange l)) none (All-nil (IsInRange l))
+      go false is = cc
+  from-range (line ∷ next ∷ more) n asks h = go (ask_of l line) (asks_from l (n + 1) (next ∷ more)) (λ rest is. from-range (next ∷ more) (n + 1) rest is) refl refl h
+    where
+      go : (o : Option Ask) (later : Answer) → ((rest : List Ask) → asks_from l (n + 1) (next ∷ more) ≡ Ok rest → All (IsInRange l) rest)
+          → ask_of l line ≡ o → asks_from l (n + 1) (next ∷ more) ≡ later → ask_before n o later ≡ Ok asks → All (IsInRange l) asks
+      go None later behind is_o is_later e = cc
+      go (Some ask) (Err fault) behind is_o is_later e = cc
+      go (Some ask) (Ok rest) behind is_o is_later e =
+          let all : ask ∷ rest ≡ asks = cc in
+          subst (All (IsInRange l)) all (All-cons (IsInRange l) ask rest (ask-range line ask is_o) (behind rest is_later))
+
+  pub asks-in_range : (bytes : List ℕ) (asks : List Ask) → asks_of l bytes ≡ Ok asks → All (IsInRange l) asks
+  unfolding asks_of
+  asks-in_range bytes asks h = from-range (pieces 10 bytes) 1 asks (unless_large-ok l asks (asks_from l 1 (pieces 10 bytes)) h)
 
   -- a fault names a line from n on
   fault-later : (ps : List (List ℕ)) (n : ℕ) (fault : ScriptFault) → asks_from l n ps ≡ Err fault → (k : ℕ) × (n ≤ k) × (fault ≡ Line k)
@@ -56,7 +80,7 @@ module _ (l : Layout) where
       go false e = (n, omega arith, cc)
   fault-later (line ∷ next ∷ more) n fault h = go (ask_of l line) (asks_from l (n + 1) (next ∷ more)) (λ is. fault-later (next ∷ more) (n + 1) fault is) h
     where
-      go : (o : Option Ask) (later : Answer) → (later ≡ Err fault → (k : ℕ) × (n + 1 ≤ k) × (fault ≡ Line k)) → joined n o later ≡ Err fault
+      go : (o : Option Ask) (later : Answer) → (later ≡ Err fault → (k : ℕ) × (n + 1 ≤ k) × (fault ≡ Line k)) → ask_before n o later ≡ Err fault
           → (k : ℕ) × (n ≤ k) × (fault ≡ Line k)
       go None later further e = (n, omega arith, cc)
       go (Some ask) (Ok asks) further e = cc
@@ -70,12 +94,12 @@ module _ (l : Layout) (may : IsLayout l) where
       text : pieces 10 bytes ≡ ask_text ask ∷ pieces 10 more
       text = ap (pieces 10) e ∙ pieces-printed l may ask in_range more
 
-      all : joined n (Some ask) (asks_from l (n + 1) (pieces 10 more)) ≡ Err (Line n)
+      all : ask_before n (Some ask) (asks_from l (n + 1) (pieces 10 more)) ≡ Err (Line n)
       all =
-          ap (λ o. joined n o (asks_from l (n + 1) (pieces 10 more))) (sym (ask-printed l may ask in_range))
+          ap (λ o. ask_before n o (asks_from l (n + 1) (pieces 10 more))) (sym (ask-printed l may ask in_range))
           ∙ sym (from-ended l n (ask_text ask) more (pieces 10 bytes) text) ∙ h
 
-      go : (later : Answer) → ((fault : ScriptFault) → later ≡ Err fault → (k : ℕ) × (n + 1 ≤ k) × (fault ≡ Line k)) → joined n (Some ask) later ≡ Err (Line n) → ⊥
+      go : (later : Answer) → ((fault : ScriptFault) → later ≡ Err fault → (k : ℕ) × (n + 1 ≤ k) × (fault ≡ Line k)) → ask_before n (Some ask) later ≡ Err (Line n) → ⊥
       go (Ok asks) further is = cc
       go (Err fault) further is =
           let found = further (Line n) is in
@@ -121,13 +145,13 @@ module _ (l : Layout) (may : IsLayout l) where
       abbrev rest : List ℕ
       rest = after_first (λ b. b == 10) bytes
 
-      all : asks_from l n (pieces 10 bytes) ≡ joined n (ask_of l line) (asks_from l (n + 1) (pieces 10 rest))
+      all : asks_from l n (pieces 10 bytes) ≡ ask_before n (ask_of l line) (asks_from l (n + 1) (pieces 10 rest))
       all = from-ended l n line rest (pieces 10 bytes) (pieces-first 10 bytes line rest here refl refl)
 
       shorter : length rest < length bytes
       shorter = omega (arith, here, length-drop (position_or_len (λ b. b == 10) bytes + 1) bytes)
 
-      after-line : (ask : Ask) → ask_of l line ≡ Some ask → (later : Answer) → asks_from l (n + 1) (pieces 10 rest) ≡ later → joined n (Some ask) later ≡ Err (Line k) → HasFirstBadLine l bytes j
+      after-line : (ask : Ask) → ask_of l line ≡ Some ask → (later : Answer) → asks_from l (n + 1) (pieces 10 rest) ≡ later → ask_before n (Some ask) later ≡ Err (Line k) → HasFirstBadLine l bytes j
       after-line ask is (Ok asks) is_later e = cc
       after-line ask is (Err fault) is_later e =
           let found : asks_from l (n + 1) (pieces 10 rest) ≡ Err (Line k) = is_later ∙ e in
@@ -142,9 +166,9 @@ module _ (l : Layout) (may : IsLayout l) where
           (again rest (j - 1) shorter found (omega (arith, number, further.1, same)))
 
       has-feed : (o : Option Ask) → ask_of l line ≡ o → HasFirstBadLine l bytes j
-      has-feed None is = at-front (all ∙ ap (λ o. joined n o (asks_from l (n + 1) (pieces 10 rest))) is) (omega (arith, here))
+      has-feed None is = at-front (all ∙ ap (λ o. ask_before n o (asks_from l (n + 1) (pieces 10 rest))) is) (omega (arith, here))
       has-feed (Some ask) is =
-          after-line ask is (asks_from l (n + 1) (pieces 10 rest)) refl (ap (λ o. joined n o (asks_from l (n + 1) (pieces 10 rest))) (sym is) ∙ sym all ∙ h)
+          after-line ask is (asks_from l (n + 1) (pieces 10 rest)) refl (ap (λ o. ask_before n o (asks_from l (n + 1) (pieces 10 rest))) (sym is) ∙ sym all ∙ h)
 
     bad-turn : HasFirstBadLine l bytes j
     bad-turn = ⊎_elim
@@ -183,7 +207,7 @@ module _ (l : Layout) (may : IsLayout l) where
 
 -- the replies of the asks of a script are too large
 pub script-large_replies : (l : Layout) (bytes : List ℕ) (asks : List Ask) (number : ℕ) → asks_from l 1 (pieces 10 bytes) ≡ Ok asks → All (IsInRange l) asks
-    → number ≡ length asks * l.symbol_bytes → reply_limit < number → (large : Large) → ◌≡◌ {A = ScriptFault} (TooLarge (record { what = ReplyBytes; number = number })) (TooLarge large)
+    → number ≡ length asks * l.symbol_bytes → REPLY_LIMIT < number → (large : Large) → ◌≡◌ {A = ScriptFault} (TooLarge (record { what = ReplyBytes; number = number })) (TooLarge large)
     → HasLargeReplies l bytes large
 script-large_replies l bytes asks number read in_range is above large e = subst (HasLargeReplies l bytes) same (record {
   asks = asks;

@@ -12,7 +12,8 @@ use Rattle.mr_mend.specs.declared.asks.Ask.{Ask}
 use Rattle.mr_mend.specs.declared.asks.ScriptFault.{ScriptFault}
 use Rattle.mr_mend.specs.declared.asks.ScriptFault.TheVariants.{Line, Memory, Large as TooLarge}
 use Rattle.mr_text.specs.Lines.{pieces}
-use Rattle.mr_mend.specs.Scripts.{IsInRange, asked, ask_of, joined, asks_from, limited, asks_of, reply_limit}
+use Rattle.mr_mend.specs.declared.limits.TheConstants.{REPLY_LIMIT}
+use Rattle.mr_mend.specs.Scripts.{IsInRange, ask_at, ask_of, ask_before, asks_from, unless_large, asks_of}
 use Rattle.mr_bits.specs.declared.errors.What.TheVariants.{ReplyBytes}
 
 -- ---- one line
@@ -29,19 +30,19 @@ module _ (l : Layout) (line : List ℕ) where
       let nothing : number_of (after_first (λ b. b == 32) line) ≡ None = ap number_of (drop_all (position_or_len (λ b. b == 32) line + 1) line (omega arith)) ∙ no_number in
       go (number_of (before_first (λ b. b == 32) line)) (number_of (after_first (λ b. b == 32) line)) nothing
     where
-      go : (s i : Option ℕ) → i ≡ None → asked l s i ≡ None
+      go : (s i : Option ℕ) → i ≡ None → ask_at l s i ≡ None
       go None i e = refl
       go (Some s) None e = refl
       go (Some s) (Some i) e = cc
 
   -- a line that has one, where the words before and behind it are read as these
-  pub ask-words : (s i : Option ℕ) → s ≡ number_of (before_first (λ b. b == 32) line) → i ≡ number_of (after_first (λ b. b == 32) line) → ask_of l line ≡ asked l s i
+  pub ask-words : (s i : Option ℕ) → s ≡ number_of (before_first (λ b. b == 32) line) → i ≡ number_of (after_first (λ b. b == 32) line) → ask_of l line ≡ ask_at l s i
   unfolding ask_of
-  ask-words s i is_s is_i = ap₂ (asked l) (sym is_s) (sym is_i)
+  ask-words s i is_s is_i = ap₂ (ask_at l) (sym is_s) (sym is_i)
 
 -- the tests of the code, one after the other
-pub asked-in : (l : Layout) (s i : ℕ) → s < l.stripes → i < stripe_symbols l → asked l (Some s) (Some i) ≡ Some (record { stripe = s; symbol = i })
-asked-in l s i low_s low_i = go (nat_lt s l.stripes) (nat_lt i (stripe_symbols l)) refl refl
+pub ask_at-in : (l : Layout) (s i : ℕ) → s < l.stripes → i < stripe_symbols l → ask_at l (Some s) (Some i) ≡ Some (record { stripe = s; symbol = i })
+ask_at-in l s i low_s low_i = go (nat_lt s l.stripes) (nat_lt i (stripe_symbols l)) refl refl
   where
     ask : Ask
     ask = record { stripe = s; symbol = i }
@@ -51,8 +52,8 @@ asked-in l s i low_s low_i = go (nat_lt s l.stripes) (nat_lt i (stripe_symbols l
     go true false is_a is_b = absurd (omega (arith, low_i, ltb-false _ _ is_b))
     go true true is_a is_b = refl
 
-pub asked-out : (l : Layout) (s i : ℕ) → (s < l.stripes → i < stripe_symbols l → ⊥) → asked l (Some s) (Some i) ≡ None
-asked-out l s i out = go (nat_lt s l.stripes) (nat_lt i (stripe_symbols l)) refl refl
+pub ask_at-out : (l : Layout) (s i : ℕ) → (s < l.stripes → i < stripe_symbols l → ⊥) → ask_at l (Some s) (Some i) ≡ None
+ask_at-out l s i out = go (nat_lt s l.stripes) (nat_lt i (stripe_symbols l)) refl refl
   where
     ask : Ask
     ask = record { stripe = s; symbol = i }
@@ -66,11 +67,11 @@ asked-out l s i out = go (nat_lt s l.stripes) (nat_lt i (stripe_symbols l)) refl
 
 module _ (l : Layout) (n : ℕ) where
   -- a line with its line feed
-  pub from-ended : (line bytes : List ℕ) (text : List (List ℕ)) → text ≡ line ∷ pieces 10 bytes → asks_from l n text ≡ joined n (ask_of l line) (asks_from l (n + 1) (pieces 10 bytes))
+  pub from-ended : (line bytes : List ℕ) (text : List (List ℕ)) → text ≡ line ∷ pieces 10 bytes → asks_from l n text ≡ ask_before n (ask_of l line) (asks_from l (n + 1) (pieces 10 bytes))
   unfolding asks_from
   from-ended line bytes text e = ap (asks_from l n) e ∙ go (pieces 10 bytes) (pieces-some 10 bytes)
     where
-      go : (rest : List (List ℕ)) → 0 < length rest → asks_from l n (line ∷ rest) ≡ joined n (ask_of l line) (asks_from l (n + 1) rest)
+      go : (rest : List (List ℕ)) → 0 < length rest → asks_from l n (line ∷ rest) ≡ ask_before n (ask_of l line) (asks_from l (n + 1) rest)
       go [] some = absurd (omega arith)
       go (next ∷ more) some = refl
 
@@ -109,7 +110,7 @@ module _ (l : Layout) (bytes : List ℕ) where
 
   module _ (asks : List Ask) (left : List ℕ) (h : IsReading l bytes asks left) where
     pub reading-turn : (ask : Ask) (rest : List ℕ) (asks_next : List Ask)
-        → asks_from l (length asks + 1) (pieces 10 left) ≡ joined (length asks + 1) (Some ask) (asks_from l (length asks + 1 + 1) (pieces 10 rest))
+        → asks_from l (length asks + 1) (pieces 10 left) ≡ ask_before (length asks + 1) (Some ask) (asks_from l (length asks + 1 + 1) (pieces 10 rest))
         → IsInRange l ask → length rest < length left → asks_next ≡ asks ++ ask ∷ [] → IsReading l bytes asks_next rest
     reading-turn ask rest asks_next step in_range shorter is = subst (λ xs. IsReading l bytes xs rest) (sym is) (record {
       all = h.all ∙ ap (behind asks) step ∙ go (asks_from l (length asks + 1 + 1) (pieces 10 rest))
@@ -121,7 +122,7 @@ module _ (l : Layout) (bytes : List ℕ) where
         longer : length (asks ++ ask ∷ []) ≡ length asks + 1
         longer = length-append asks (ask ∷ [])
 
-        go : (r : Result (List Ask) ScriptFault) → behind asks (joined (length asks + 1) (Some ask) r) ≡ behind (asks ++ ask ∷ []) r
+        go : (r : Result (List Ask) ScriptFault) → behind asks (ask_before (length asks + 1) (Some ask) r) ≡ behind (asks ++ ask ∷ []) r
         go (Ok later) = ap Ok (sym (append_assoc asks (ask ∷ []) later))
         go (Err fault) = refl
 
@@ -136,27 +137,27 @@ module _ (l : Layout) (bytes : List ℕ) where
 module _ (l : Layout) (bytes : List ℕ) where
   pub script-fault : (fault : ScriptFault) → (fault ≡ Memory) ⊎ (asks_from l 1 (pieces 10 bytes) ≡ Err fault) → (fault ≡ Memory) ⊎ (asks_of l bytes ≡ Err fault)
   unfolding asks_of
-  script-fault fault h = ⊎_elim (λ none. inl none) (λ bad. inr (ap (limited l) bad)) h
+  script-fault fault h = ⊎_elim (λ none. inl none) (λ bad. inr (ap (unless_large l) bad)) h
 
   module _ (asks : List Ask) (read : asks_from l 1 (pieces 10 bytes) ≡ Ok asks) where
-    pub script-large : (number : ℕ) → number ≡ length asks * l.symbol_bytes → reply_limit < number → asks_of l bytes ≡ Err (TooLarge (record { what = ReplyBytes; number = number }))
+    pub script-large : (number : ℕ) → number ≡ length asks * l.symbol_bytes → REPLY_LIMIT < number → asks_of l bytes ≡ Err (TooLarge (record { what = ReplyBytes; number = number }))
     unfolding asks_of
-    script-large number is large = ap (limited l) read ∙ go (nat_lt reply_limit (length asks * l.symbol_bytes)) refl
+    script-large number is large = ap (unless_large l) read ∙ go (nat_lt REPLY_LIMIT (length asks * l.symbol_bytes)) refl
       where
         fault : ℕ → ScriptFault
         fault n = TooLarge (record { what = ReplyBytes; number = n })
 
-        go : (t : Bool) → nat_lt reply_limit (length asks * l.symbol_bytes) ≡ t → cond t (Err (fault (length asks * l.symbol_bytes))) (Ok asks) ≡ Err (fault number)
+        go : (t : Bool) → nat_lt REPLY_LIMIT (length asks * l.symbol_bytes) ≡ t → cond t (Err (fault (length asks * l.symbol_bytes))) (Ok asks) ≡ Err (fault number)
         go true e = ap (λ n. Err (fault n)) (sym is)
         go false e = absurd (omega (arith, is, large, ltb-false _ _ e))
 
-    pub script-asks : (number : ℕ) → number ≡ length asks * l.symbol_bytes → number ≤ reply_limit → asks_of l bytes ≡ Ok asks
+    pub script-asks : (number : ℕ) → number ≡ length asks * l.symbol_bytes → number ≤ REPLY_LIMIT → asks_of l bytes ≡ Ok asks
     unfolding asks_of
-    script-asks number is few = ap (limited l) read ∙ go (nat_lt reply_limit (length asks * l.symbol_bytes)) refl
+    script-asks number is few = ap (unless_large l) read ∙ go (nat_lt REPLY_LIMIT (length asks * l.symbol_bytes)) refl
       where
         fault : ScriptFault
         fault = TooLarge (record { what = ReplyBytes; number = length asks * l.symbol_bytes })
 
-        go : (t : Bool) → nat_lt reply_limit (length asks * l.symbol_bytes) ≡ t → cond t (Err fault) (Ok asks) ≡ Ok asks
+        go : (t : Bool) → nat_lt REPLY_LIMIT (length asks * l.symbol_bytes) ≡ t → cond t (Err fault) (Ok asks) ≡ Ok asks
         go true e = absurd (omega (arith, is, few, ltb-true _ _ e))
         go false e = refl

@@ -22,8 +22,9 @@ use Rattle.mr_mend.specs.declared.asks.ScriptFault.{ScriptFault}
 use Rattle.mr_mend.specs.declared.asks.ScriptFault.TheVariants.{Line, Large as TooLarge}
 use Rattle.mr_bits.specs.declared.errors.What.TheVariants.{ReplyBytes}
 use Rattle.mr_text.specs.Lines.{pieces}
-use Rattle.mr_mend.specs.Scripts.{IsInRange, asked, ask_of, joined, asks_from, limited, asks_of, reply_limit, ask_text, script_text, ReadsScripts}
-use Rattle.mr_mend.proofs.ScriptLines.{no_number, ask-words, asked-in, from-ended, from-nothing, script-asks}
+use Rattle.mr_mend.specs.declared.limits.TheConstants.{REPLY_LIMIT}
+use Rattle.mr_mend.specs.Scripts.{IsInRange, ask_at, ask_of, ask_before, asks_from, unless_large, asks_of, ask_text, script_text, ReadsScripts}
+use Rattle.mr_mend.proofs.ScriptLines.{no_number, ask-words, ask_at-in, from-ended, from-nothing, script-asks}
 
 -- no digit is a byte below the digits
 decimal-without : (c n : ℕ) → c < 48 → n < 2 ^ 64 → All (λ b. (b == c) ≡ false) (decimal n)
@@ -77,7 +78,7 @@ module _ (l : Layout) (may : IsLayout l) where
     ask-printed =
         ask-words l (ask_text ask) (Some ask.stripe) (Some ask.symbol)
         (sym (ap number_of before ∙ number_of-decimal ask.stripe small_stripe)) (sym (ap number_of after ∙ number_of-decimal ask.symbol small_symbol))
-        ∙ asked-in l ask.stripe ask.symbol in_range.stripe in_range.symbol
+        ∙ ask_at-in l ask.stripe ask.symbol in_range.stripe in_range.symbol
 
     no_line_feed : All (λ b. (b == 10) ≡ false) (ask_text ask)
     no_line_feed =
@@ -94,13 +95,13 @@ module _ (l : Layout) (may : IsLayout l) where
   asks-printed (ask ∷ asks) n in_range =
       let first : IsInRange l ask = All-head (IsInRange l) ask asks in_range in
       from-ended l n (ask_text ask) (script_text asks) _ (pieces-printed ask first (script_text asks))
-      ∙ (λ j. joined n (ask-printed ask first j) (asks-printed asks (n + 1) (All-tail (IsInRange l) ask asks in_range) j))
+      ∙ (λ j. ask_before n (ask-printed ask first j) (asks-printed asks (n + 1) (All-tail (IsInRange l) ask asks in_range) j))
 
 -- ---- read, and then printed
 
 module _ (l : Layout) where
-  asked-is : (s i : ℕ) (ask : Ask) → asked l (Some s) (Some i) ≡ Some ask → (s ≡ ask.stripe) × (i ≡ ask.symbol)
-  asked-is s i ask h = go (nat_lt s l.stripes && nat_lt i (stripe_symbols l)) h
+  ask_at-is : (s i : ℕ) (ask : Ask) → ask_at l (Some s) (Some i) ≡ Some ask → (s ≡ ask.stripe) × (i ≡ ask.symbol)
+  ask_at-is s i ask h = go (nat_lt s l.stripes && nat_lt i (stripe_symbols l)) h
     where
       made : Ask
       made = record { stripe = s; symbol = i }
@@ -123,11 +124,11 @@ module _ (l : Layout) where
     unfolding ask_of
     line-spelled ask h = go (number_of (before_first (λ b. b == 32) line)) (number_of (after_first (λ b. b == 32) line)) refl refl h
       where
-        go : (s i : Option ℕ) → number_of (before_first (λ b. b == 32) line) ≡ s → number_of (after_first (λ b. b == 32) line) ≡ i → asked l s i ≡ Some ask → line ≡ ask_text ask
+        go : (s i : Option ℕ) → number_of (before_first (λ b. b == 32) line) ≡ s → number_of (after_first (λ b. b == 32) line) ≡ i → ask_at l s i ≡ Some ask → line ≡ ask_text ask
         go None i is_s is_i e = cc
         go (Some s) None is_s is_i e = cc
         go (Some s) (Some i) is_s is_i e =
-            let same = asked-is s i ask e in
+            let same = ask_at-is s i ask e in
             let here : position_or_len (λ b. b == 32) line < length line = has_space i is_i in
             let space : get_or line (position_or_len (λ b. b == 32) line) 0 ≡ 32 = eqb-true _ _ (passes_at_first (λ b. b == 32) line 0 here) in
             let stripe : before_first (λ b. b == 32) line ≡ decimal ask.stripe = sym (decimal-number_of _ s is_s).0 ∙ ap decimal same.0 in
@@ -151,7 +152,7 @@ module _ (l : Layout) where
   asks-spelled (line ∷ next ∷ more) n asks some h = go (ask_of l line) (asks_from l (n + 1) (next ∷ more)) (λ rest is. asks-spelled (next ∷ more) (n + 1) rest (omega arith) is) refl refl h
     where
       go : (o : Option Ask) (later : Result (List Ask) ScriptFault) → ((rest : List Ask) → asks_from l (n + 1) (next ∷ more) ≡ Ok rest → join_with_byte 10 (next ∷ more) ≡ script_text rest)
-          → ask_of l line ≡ o → asks_from l (n + 1) (next ∷ more) ≡ later → joined n o later ≡ Ok asks
+          → ask_of l line ≡ o → asks_from l (n + 1) (next ∷ more) ≡ later → ask_before n o later ≡ Ok asks
           → line ++ (10 ∷ join_with_byte 10 (next ∷ more)) ≡ script_text asks
       go None later behind is_o is_later e = cc
       go (Some ask) (Err fault) behind is_o is_later e = cc
@@ -169,9 +170,9 @@ module _ (l : Layout) where
   abbrev Answer : Type 0
   Answer = Result (List Ask) ScriptFault
 
-  limited-ok : (asks : List Ask) (r : Result (List Ask) ScriptFault) → limited l r ≡ Ok asks → r ≡ Ok asks
-  limited-ok asks (Err fault) h = cc
-  limited-ok asks (Ok read) h = go (nat_lt reply_limit (length read * l.symbol_bytes)) h
+  pub unless_large-ok : (asks : List Ask) (r : Result (List Ask) ScriptFault) → unless_large l r ≡ Ok asks → r ≡ Ok asks
+  unless_large-ok asks (Err fault) h = cc
+  unless_large-ok asks (Ok read) h = go (nat_lt REPLY_LIMIT (length read * l.symbol_bytes)) h
     where
       go : (t : Bool) → cond t (Err (TooLarge (record { what = ReplyBytes; number = length read * l.symbol_bytes }))) (Ok read) ≡ Ok asks → ◌≡◌ {A = Answer} (Ok read) (Ok asks)
       go true e = cc
@@ -181,5 +182,5 @@ pub reads-scripts : (l : Layout) → IsLayout l → ReadsScripts l
 unfolding asks_of
 reads-scripts l may = record {
   printed = λ asks in_range few. script-asks l (script_text asks) asks (asks-printed l may asks 1 in_range) (length asks * l.symbol_bytes) refl few;
-  spelled = λ bytes asks h. asks-text l bytes asks (limited-ok l asks (asks_from l 1 (pieces 10 bytes)) h);
+  spelled = λ bytes asks h. asks-text l bytes asks (unless_large-ok l asks (asks_from l 1 (pieces 10 bytes)) h);
 }

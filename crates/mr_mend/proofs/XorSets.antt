@@ -1,21 +1,21 @@
 -- The XOR of the symbols of a set in a stripe, one symbol after the other.
-use Rattle.std.proofs.Common.{refl, ◌≡◌, ℕ, ◌+◌, ◌-◌, ◌*◌, ◌^◌, ◌<◌, true, List, [], take, drop, length, get_or, replicate, Option, Some, None, sym, ap, ap₂, subst, ◌∙◌, arith, zero-add, zero-mul, pow_pos}
+use Rattle.std.proofs.Common.{refl, ◌≡◌, ℕ, ◌+◌, ◌-◌, ◌*◌, ◌^◌, ◌<◌, true, List, [], take, drop, length, get_or, replicate, Option, Some, None, sym, ap, ap₂, subst, ◌∙◌, arith, zero-add, zero-mul}
 use Rattle.std.specs.Prelude.{IfSome}
 use Rattle.std.proofs.Math.Nat.{add-mul}
 use Rattle.std.proofs.lemmas.Option.{IfSome_then}
 use Rattle.std.proofs.lemmas.List.FromFn.{get_or-map-range_with_len}
 use Rattle.mr_model.specs.Sets.{within, below}
 use Rattle.mr_model.specs.Members.{members, TakesLeast}
-use Rattle.mr_model.specs.Code.{Code}
-use Rattle.mr_model.proofs.SetLaws.{member-below, below-zero, Within-le, Within-minus}
+use Rattle.mr_model.specs.Code.{Code, survivors}
+use Rattle.mr_model.proofs.SetLaws.{member-below, below-zero}
 use Rattle.mr_model.proofs.Loops.{IsRest, IsTurn, IsRest-all, IsRest-none, IsRest-turn, members-none, members-length-turn}
 use Rattle.mr_io.specs.Sights.{Sight, sight_with}
 use Rattle.mr_kern.specs.Xor.{xor_bytes}
 use Rattle.mr_image.specs.Images.{Layout, image_of, stripe_of, stripe_symbols, xor_symbols, place}
 use Rattle.mr_image.proofs.XorLaws.{xor_symbols-none, xor_symbols-turn}
-use Rattle.mr_eq.specs.Singles.{survivors}
+use Rattle.mr_eq.proofs.SingleLaws.{survivors-below}
 use Rattle.mr_model.specs.Choice.{single}
-use Rattle.mr_mend.proofs.Progress.{sight_with-none, sight_with-more}
+use Rattle.mr_io.proofs.Seeing.{sight_with-none, sight_with-more}
 use Rattle.mr_mend.proofs.Subsets.{within-low}
 
 -- the members of the set below n are added
@@ -79,9 +79,6 @@ module _ (l : Layout) (set s : ℕ) (few : set < 2 ^ stripe_symbols l) (old : Si
   pub sum-taken : (n rest after : ℕ) (now : Sight) (buf : List ℕ) → SumBelow l set s n rest old now before after buf → rest ≡ 0
       → now ≡ sight_with old (length (members set) * l.symbol_bytes)
   sum-taken n rest after now buf h none = h.taken ∙ ap (λ x. sight_with old (length (members x) * l.symbol_bytes)) (IsRest-none set n rest h.to_come none)
-
-survivors-below : (m : Code) (lost : ℕ) → survivors m lost < 2 ^ length m.rows
-survivors-below m lost = omega (arith, Within-le _ _ (Within-minus (2 ^ length m.rows - 1) lost), pow_pos (length m.rows))
 
 -- the single equation of a lost symbol, as a set
 abbrev pub single_set : (m : Code) (lost budget t : ℕ) → ℕ

@@ -1,13 +1,16 @@
--- What a plan must be to mend an image, what an eye must tell of it, and the bytes of the rebuilt symbols.
-use Rattle.std.specs.Prelude.{◌≡◌, ℕ, ◌+◌, ◌*◌, ◌^◌, ◌<◌, ◌≤◌, ◌≢◌, ◌⊎◌, Bool, true, false, not, List, map, flat_map, take, drop, length, slice_index, slice_index_or, All, IfSome, is_some, if◌then◌else◌}
+-- What plans must be to mend an image, and the bytes of the rebuilt symbols.
+use Rattle.std.specs.Prelude.{◌≡◌, ℕ, ◌+◌, ◌*◌, ◌^◌, ◌<◌, ◌≤◌, ◌≢◌, ◌⊎◌, Bool, true, false, not, List, map, flat_map, take, drop, length, slice_index, slice_index_or, All, is_some, if◌then◌else◌}
 use Rattle.std.specs.Int.{bit_at}
 use Rattle.mr_model.specs.Sets.{has, within, set_below}
+use Rattle.mr_model.specs.Members.{members}
 use Rattle.mr_model.specs.Plans.{Recipe}
-use Rattle.mr_io.specs.Sights.{Sight}
+use Rattle.mr_model.specs.Search.{sum_below}
 use Rattle.mr_kern.specs.Xor.{xor_bytes}
-use Rattle.mr_image.specs.Images.{Layout, stripe_symbols, Image, image_of, equation_of, every_stripe, mended}
+use Rattle.mr_image.specs.Images.{Layout, stripe_symbols, Image, image_of, equation_of, mended}
 use Rattle.mr_image.specs.Heads.{file_bytes, image_bytes}
+use Rattle.mr_image.specs.declared.limits.TheConstants.{HEAD_BYTES}
 use Rattle.mr_plan.specs.Plans.{PlanParts}
+use Rattle.mr_plan.specs.PlanLists.{plan_at, recipes_at}
 use Rattle.mr_mend.specs.declared.asks.Ask.{Ask}
 use Rattle.mr_mend.specs.Replies.{lines_room}
 
@@ -26,9 +29,9 @@ pub record IsMendable (l : Layout) (plan : PlanParts) : Type 0 where
   pub inside : All (λ r. within r.equation plan.set ≡ true) plan.recipes
   pub upwards : IsUpwards (map (λ r. r.symbol) plan.recipes)
 
--- the file behind the eye, where it is told, has the length that the layout names
-abbrev pub HasImage : Layout → Sight → Type 0
-HasImage l sight = IfSome sight.bytes (λ bytes. length bytes ≡ file_bytes l)
+-- in each stripe the plan of that stripe may be carried out
+pub record AreMendable (l : Layout) (plans : List PlanParts) : Type 0 where
+  pub each : (s : ℕ) → IsMendable l (plan_at plans s)
 
 -- ---- what is made
 
@@ -40,31 +43,26 @@ lost_bytes l recipes image s = flat_map (λ r. mended l recipes image s r.symbol
 abbrev pub with_symbol : ℕ → List ℕ → Recipe → List ℕ → List ℕ
 with_symbol i symbol r held = if has r.equation i then xor_bytes held symbol else held
 
--- ---- what stays
-
--- the eye is on the same file, for the same duty
-pub record IsSameFile (before now : Sight) : Type 0 where
-  pub bytes : now.bytes ≡ before.bytes
-  pub duty : now.duty ≡ before.duty
-
 -- ---- what stands in the bytes of a file
 
 -- some recipe is one of this symbol
 abbrev pub has_recipe : List Recipe → ℕ → Bool
 has_recipe recipes i = is_some (equation_of recipes i)
 
--- each symbol with a recipe stands there as the mended image has it
-pub record HoldsMended (l : Layout) (recipes : List Recipe) (image : Image) (bytes : List ℕ) : Type 0 where
-  pub same : (s i : ℕ) → s < l.stripes → i < stripe_symbols l → has_recipe recipes i ≡ true
-      → image_of l bytes s i ≡ mended l (every_stripe recipes) image s i
+-- each symbol with a recipe in its stripe stands there as the mended image has it
+pub record HoldsMended (l : Layout) (recipes : ℕ → List Recipe) (image : Image) (bytes : List ℕ)
+    : Type 0 where
+  pub same : (s i : ℕ) → s < l.stripes → i < stripe_symbols l → has_recipe (recipes s) i ≡ true
+      → image_of l bytes s i ≡ mended l recipes image s i
 
 -- after these symbols were put into stripe s, that of each recipe to its place, the other stripes and the head are as before
-pub record PutsSymbols (l : Layout) (recipes : List Recipe) (s : ℕ) (symbols before now : List ℕ) : Type 0 where
+pub record PutsSymbols (l : Layout) (recipes : List Recipe) (s : ℕ) (symbols before now : List ℕ)
+    : Type 0 where
   pub there : (k : ℕ) (d : Recipe) → k < length recipes
       → image_of l now s (slice_index_or recipes k d).symbol
       ≡ take l.symbol_bytes (drop (k * l.symbol_bytes) symbols)
   pub others : (t i : ℕ) → t ≢ s → i < stripe_symbols l → image_of l now t i ≡ image_of l before t i
-  pub front : take 32 now ≡ take 32 before
+  pub front : take HEAD_BYTES now ≡ take HEAD_BYTES before
 
 -- ---- the symbols that are copied
 
@@ -72,16 +70,17 @@ pub record PutsSymbols (l : Layout) (recipes : List Recipe) (s : ℕ) (symbols b
 unfoldable pub copied_set : Layout → List Recipe → ℕ
 copied_set l recipes = set_below (stripe_symbols l) (λ i. not (has_recipe recipes i))
 
--- each symbol without a recipe stands there as the image has it
-pub record HoldsCopies (l : Layout) (recipes : List Recipe) (image : Image) (bytes : List ℕ) : Type 0 where
-  pub same : (s i : ℕ) → s < l.stripes → i < stripe_symbols l → has_recipe recipes i ≡ false
+-- each symbol without a recipe in its stripe stands there as the image has it
+pub record HoldsCopies (l : Layout) (recipes : ℕ → List Recipe) (image : Image) (bytes : List ℕ)
+    : Type 0 where
+  pub same : (s i : ℕ) → s < l.stripes → i < stripe_symbols l → has_recipe (recipes s) i ≡ false
       → image_of l bytes s i ≡ image s i
 
--- the head, and each symbol with a recipe, stand there as before
-pub record KeepsMended (l : Layout) (recipes : List Recipe) (before now : List ℕ) : Type 0 where
-  pub same : (s i : ℕ) → s < l.stripes → i < stripe_symbols l → has_recipe recipes i ≡ true
+-- the head, and each symbol with a recipe in its stripe, stand there as before
+pub record KeepsMended (l : Layout) (recipes : ℕ → List Recipe) (before now : List ℕ) : Type 0 where
+  pub same : (s i : ℕ) → s < l.stripes → i < stripe_symbols l → has_recipe (recipes s) i ≡ true
       → image_of l now s i ≡ image_of l before s i
-  pub front : take 32 now ≡ take 32 before
+  pub front : take HEAD_BYTES now ≡ take HEAD_BYTES before
 
 -- in stripe s the symbols of the set stand as the image has them
 pub record HoldsSymbols (l : Layout) (set s : ℕ) (image : Image) (bytes : List ℕ) : Type 0 where
@@ -91,7 +90,7 @@ pub record HoldsSymbols (l : Layout) (set s : ℕ) (image : Image) (bytes : List
 pub record KeepsOthers (l : Layout) (set s : ℕ) (before now : List ℕ) : Type 0 where
   pub same : (t i : ℕ) → i < stripe_symbols l → (t ≡ s → bit_at set i ≡ 0)
       → image_of l now t i ≡ image_of l before t i
-  pub front : take 32 now ≡ take 32 before
+  pub front : take HEAD_BYTES now ≡ take HEAD_BYTES before
 
 -- ---- a run of neighbours
 
@@ -109,13 +108,17 @@ pub record HoldsRun (l : Layout) (s first «end» : ℕ) (image : Image) (bytes 
 pub record KeepsBesides (l : Layout) (s first «end» : ℕ) (before now : List ℕ) : Type 0 where
   pub same : (t i : ℕ) → i < stripe_symbols l → (t ≡ s → (i < first) ⊎ («end» ≤ i))
       → image_of l now t i ≡ image_of l before t i
-  pub front : take 32 now ≡ take 32 before
+  pub front : take HEAD_BYTES now ≡ take HEAD_BYTES before
 
 -- ---- a whole rebuild
 
 -- the file in which each symbol with a recipe is rebuilt, and the others are as they were
-abbrev pub mended_file : Layout → List Recipe → List ℕ → List ℕ
-mended_file l recipes bytes = image_bytes l (mended l (every_stripe recipes) (image_of l bytes))
+abbrev pub mended_file : Layout → (ℕ → List Recipe) → List ℕ → List ℕ
+mended_file l recipes bytes = image_bytes l (mended l recipes (image_of l bytes))
+
+-- the members of the sets of the first n stripes, counted in each stripe
+abbrev pub members_read : List PlanParts → ℕ → ℕ
+members_read plans n = sum_below n (λ s. length (members (plan_at plans s).set))
 
 -- how many bytes there are for the whole file, for one symbol, for the rebuilt symbols of a stripe, for all replies, and
 -- for the lines of replies that are gathered
@@ -126,10 +129,11 @@ pub record RoomSizes : Type 0 where
   pub replies : ℕ
   pub line : ℕ
 
--- there is room for the layout, the plan and the asks
-pub record IsRoomFor (l : Layout) (plan : PlanParts) (asks : List Ask) (room : RoomSizes) : Type 0 where
+-- there is room for the layout, the plans and the asks
+pub record IsRoomFor (l : Layout) (plans : List PlanParts) (asks : List Ask) (room : RoomSizes)
+    : Type 0 where
   pub image : room.image ≡ file_bytes l
   pub buf : room.buf ≡ l.symbol_bytes
-  pub lost : room.lost ≡ length plan.recipes * l.symbol_bytes
+  pub lost : room.lost ≡ length (recipes_at plans 0) * l.symbol_bytes
   pub replies : room.replies ≡ length asks * l.symbol_bytes
   pub line : room.line ≡ lines_room l

@@ -4,6 +4,7 @@ use Rattle.hex.specs.Hex.{encode_lower}
 use Rattle.mr_io.specs.Taking.{Held, Takes}
 use Rattle.mr_image.specs.Images.{Image, Layout}
 use Rattle.mr_mend.specs.declared.asks.Ask.{Ask}
+use Rattle.mr_mend.specs.declared.limits.TheConstants.{GATHERED, LINE_FRAME}
 
 -- the front of a line: `reply `, the stripe, the symbol, and a space behind each
 unfoldable pub reply_front : Ask → List ℕ
@@ -16,11 +17,12 @@ reply_line ask bytes = reply_front ask ++ encode_lower bytes ++ codes "\n"
 
 -- room for the line of one reply
 abbrev pub line_room : Layout → ℕ
-line_room l = 2 * l.symbol_bytes + 32
+line_room l = 2 * l.symbol_bytes + LINE_FRAME
 
--- room for the lines that are gathered before they are put: 65,536 bytes, or those of one line where it has more
+-- room for the lines that are gathered before they are put: for so many bytes, or those of one line
+-- where it has more
 abbrev pub lines_room : Layout → ℕ
-lines_room l = max (line_room l) 65536
+lines_room l = max (line_room l) GATHERED
 
 -- the lines of the symbols of an image that are asked for
 abbrev pub reply_lines : Image → List Ask → List ℕ

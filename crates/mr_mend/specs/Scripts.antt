@@ -7,15 +7,13 @@ use Rattle.mr_bits.specs.declared.errors.Large.{Large}
 use Rattle.mr_bits.specs.declared.errors.What.TheVariants.{ReplyBytes}
 use Rattle.mr_image.specs.Images.{Layout, stripe_symbols}
 use Rattle.mr_mend.specs.declared.asks.Ask.{Ask}
+use Rattle.mr_mend.specs.declared.limits.TheConstants.{REPLY_LIMIT, SCRIPT_LIMIT}
 use Rattle.mr_mend.specs.declared.asks.ScriptFault.{ScriptFault}
 use Rattle.mr_mend.specs.declared.asks.ScriptFault.TheVariants.{Line, Large as TooLarge}
 
--- the most bytes of a script, and of all its replies
+-- the most bytes of a script
 abbrev pub script_limit : ℕ
-script_limit = 1048576
-
-abbrev pub reply_limit : ℕ
-reply_limit = 67108864
+script_limit = SCRIPT_LIMIT
 
 -- ---- one line
 
@@ -25,42 +23,42 @@ pub record IsInRange (l : Layout) (ask : Ask) : Type 0 where
   pub symbol : ask.symbol < stripe_symbols l
 
 -- the ask of a stripe and a symbol, where the image has them
-abbrev pub asked : Layout → Option ℕ → Option ℕ → Option Ask
-asked l (Some s) (Some i) =
+abbrev pub ask_at : Layout → Option ℕ → Option ℕ → Option Ask
+ask_at l (Some s) (Some i) =
     if nat_lt s l.stripes && nat_lt i (stripe_symbols l)
     then Some (record { stripe = s; symbol = i }) else None
-asked l _ _ = None
+ask_at l _ _ = None
 
 -- the ask that a line spells: the number of a stripe, one space (32), and the number of a symbol
 unfoldable pub ask_of : Layout → List ℕ → Option Ask
-ask_of l line = asked l
+ask_of l line = ask_at l
     (number_of (before_first (λ b. b == 32) line)) (number_of (after_first (λ b. b == 32) line))
 
 -- ---- all lines
 
 -- the ask of line n before those of the lines behind it
-abbrev pub joined : ℕ → Option Ask → Result (List Ask) ScriptFault → Result (List Ask) ScriptFault
-joined n None later = Err (Line n)
-joined n (Some ask) (Ok asks) = Ok (ask ∷ asks)
-joined n (Some ask) (Err fault) = Err fault
+abbrev pub ask_before : ℕ → Option Ask → Result (List Ask) ScriptFault → Result (List Ask) ScriptFault
+ask_before n None later = Err (Line n)
+ask_before n (Some ask) (Ok asks) = Ok (ask ∷ asks)
+ask_before n (Some ask) (Err fault) = Err fault
 
 -- the asks of the lines from number n on, or the first line that spells none; behind the last line feed (10) nothing stands
 unfoldable pub asks_from : Layout → ℕ → List (List ℕ) → Result (List Ask) ScriptFault
 asks_from l n [] = Ok []
 asks_from l n (last ∷ []) = if length last == 0 then Ok [] else Err (Line n)
-asks_from l n (line ∷ next ∷ more) = joined n (ask_of l line) (asks_from l (n + 1) (next ∷ more))
+asks_from l n (line ∷ next ∷ more) = ask_before n (ask_of l line) (asks_from l (n + 1) (next ∷ more))
 
 -- asks whose replies have in all no more bytes than the limit
-abbrev pub limited : Layout → Result (List Ask) ScriptFault → Result (List Ask) ScriptFault
-limited l (Ok asks) =
-    if nat_lt reply_limit (length asks * l.symbol_bytes)
+abbrev pub unless_large : Layout → Result (List Ask) ScriptFault → Result (List Ask) ScriptFault
+unless_large l (Ok asks) =
+    if nat_lt REPLY_LIMIT (length asks * l.symbol_bytes)
     then Err (TooLarge (record { what = ReplyBytes; number = length asks * l.symbol_bytes }))
     else Ok asks
-limited l (Err fault) = Err fault
+unless_large l (Err fault) = Err fault
 
 -- what a script asks for, or its first fault
 unfoldable pub asks_of : Layout → List ℕ → Result (List Ask) ScriptFault
-asks_of l bytes = limited l (asks_from l 1 (pieces 10 bytes))
+asks_of l bytes = unless_large l (asks_from l 1 (pieces 10 bytes))
 
 -- ---- printing
 
@@ -96,12 +94,12 @@ pub record HasLargeReplies (l : Layout) (bytes : List ℕ) (large : Large) : Typ
   pub text : bytes ≡ script_text asks
   pub what : large.what ≡ ReplyBytes
   pub number : large.number ≡ length asks * l.symbol_bytes
-  pub above : reply_limit < large.number
+  pub above : REPLY_LIMIT < large.number
 
 -- Printing and reading are inverse: the text of asks that the image has is read as these asks, where their replies are
 -- not too large, and what is read as asks is the text of them.
 pub record ReadsScripts (l : Layout) : Type 0 where
   pub printed : (asks : List Ask) → All (IsInRange l) asks
-      → length asks * l.symbol_bytes ≤ reply_limit → asks_of l (script_text asks) ≡ Ok asks
+      → length asks * l.symbol_bytes ≤ REPLY_LIMIT → asks_of l (script_text asks) ≡ Ok asks
   pub spelled : (bytes : List ℕ) (asks : List Ask)
       → asks_of l bytes ≡ Ok asks → bytes ≡ script_text asks

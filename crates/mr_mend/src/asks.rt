@@ -22,7 +22,7 @@ pub enum ScriptFault {
         /// The number of the line.
         line: u32,
     },
-    /// The replies have more than 67,108,864 bytes.
+    /// The replies have more than `REPLY_LIMIT` bytes.
     #[error("{0}")]
     Large(Large),
     /// There was no memory.

@@ -7,12 +7,14 @@ ghost use Rattle.mr_io.specs.Counts.{HasCause};
 ghost use Rattle.mr_io.specs.Sights.{sight_with};
 ghost use Rattle.mr_image.specs.Images.{image_of, stripe_symbols};
 ghost use Rattle.mr_image.specs.Heads.{file_bytes};
-ghost use Rattle.mr_mend.specs.Mending.{HasImage, IsSameFile, copied_set, HoldsCopies, KeepsMended, HoldsSymbols, KeepsOthers, HoldsRun, KeepsBesides, IsRunEnd};
+ghost use Rattle.mr_image.specs.Sights.{HasImage, IsSameFile};
+ghost use Rattle.mr_plan.specs.PlanLists.{recipes_at};
+ghost use Rattle.mr_mend.specs.Mending.{copied_set, HoldsCopies, KeepsMended, HoldsSymbols, KeepsOthers, HoldsRun, KeepsBesides, IsRunEnd};
 
 use mr_bits::Mask;
 use mr_image::ImageHead;
 use mr_io::{Eye, Failed};
-use mr_plan::{Plan, Recipe};
+use mr_plan::{Plans, Recipe};
 
 /// Reads each symbol that has no recipe to its place in `image`, which has the bytes of the whole file.
 ///
@@ -21,21 +23,21 @@ use mr_plan::{Plan, Recipe};
 pub fn copy_survivors<E: Eye>(
     eye: &mut E,
     head: &ImageHead,
-    plan: &Plan,
+    plans: &Plans,
     image: &mut [u8],
 ) -> Result<(), Failed>
     requires eye { HasImage head.now (E.sight eye.old) }
     requires image { length image.old ≡ file_bytes head.now }
     ensures copied { OnOk result (IfSome (E.sight eye.old).bytes (λ bytes.
-        HoldsCopies head.now plan.now.recipes (image_of head.now bytes) image.new)) }
-    ensures kept { KeepsMended head.now plan.now.recipes image.old image.new }
+        HoldsCopies head.now (recipes_at plans.now) (image_of head.now bytes) image.new)) }
+    ensures kept { KeepsMended head.now (recipes_at plans.now) image.old image.new }
     ensures taken { OnOk result (E.sight eye.new ≡ sight_with (E.sight eye.old)
-        (head.now.stripes * (length (members (copied_set head.now plan.now.recipes))
+        (head.now.stripes * (length (members (copied_set head.now (recipes_at plans.now 0)))
         * head.now.symbol_bytes))) }
     ensures file { IsSameFile (E.sight eye.old) (E.sight eye.new) }
     ensures cause { HasCause (E.faults eye.old) (E.faults eye.new) result }
 {
-    let copied = copied_symbols(head, plan.recipes());
+    let copied = copied_symbols(head, plans.at(0).recipes());
     for stripe in 0..head.stripes() {
         copy_stripe(eye, head, copied, stripe, image)?;
     }

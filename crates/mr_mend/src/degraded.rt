@@ -3,11 +3,11 @@
 ghost use Rattle.std.specs.Prelude.{◌≡◌, ◌*◌, ◌<◌, length, IfSome, OnOk};
 ghost use Rattle.std.specs.Int.{bit_at};
 ghost use Rattle.mr_model.specs.Members.{members};
-ghost use Rattle.mr_eq.specs.Singles.{survivors};
+ghost use Rattle.mr_model.specs.Code.{survivors};
 ghost use Rattle.mr_io.specs.Counts.{HasCause};
 ghost use Rattle.mr_io.specs.Sights.{sight_with};
 ghost use Rattle.mr_image.specs.Images.{every_stripe, image_of, near as near_reply, singles_of, stripe_symbols};
-ghost use Rattle.mr_mend.specs.Mending.{HasImage, IsSameFile};
+ghost use Rattle.mr_image.specs.Sights.{HasImage, IsSameFile};
 
 use crate::asks::Ask;
 use mr_eq::Singles;

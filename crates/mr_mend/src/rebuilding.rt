@@ -2,9 +2,11 @@ ghost use Rattle.std.specs.Prelude.{◌≡◌, ◌*◌, ◌≤◌, ◌⊎◌, le
 ghost use Rattle.mr_model.specs.Members.{members};
 ghost use Rattle.mr_io.specs.Counts.{Rose};
 ghost use Rattle.mr_io.specs.Sights.{sight_with};
-ghost use Rattle.mr_image.specs.Images.{every_stripe, image_of, mended};
+ghost use Rattle.mr_image.specs.Images.{image_of, mended};
 ghost use Rattle.mr_image.specs.Heads.{file_bytes, head_bytes};
-ghost use Rattle.mr_mend.specs.Mending.{IsMendable, HasImage, IsSameFile, IsRoomFor, copied_set, mended_file};
+ghost use Rattle.mr_image.specs.Sights.{HasImage, IsSameFile};
+ghost use Rattle.mr_plan.specs.PlanLists.{recipes_at};
+ghost use Rattle.mr_mend.specs.Mending.{AreMendable, IsRoomFor, copied_set, mended_file, members_read};
 ghost use Rattle.mr_mend.specs.Replies.{line_room};
 ghost use Rattle.mr_mend.specs.Scripts.{IsInRange};
 ghost use Rattle.mr_mend.specs.Serving.{live_reads, reply_bytes};
@@ -12,17 +14,18 @@ ghost use Rattle.mr_mend.specs.Serving.{live_reads, reply_bytes};
 use crate::asks::Ask;
 use crate::copies::copy_survivors;
 use crate::images::mend_all;
+use crate::limits::{GATHERED, LINE_FRAME};
 use crate::rebuilds::Rebuild;
 use crate::serving::serve_asks;
 use mr_bits::NoMemory;
-use mr_image::ImageHead;
+use mr_image::{HEAD_BYTES, ImageHead};
 use mr_io::{Eye, Failed};
-use mr_plan::Plan;
+use mr_plan::Plans;
 use std::alloc::Global;
 use std::marker::Model;
 
-/// The most bytes of lines that are gathered before they are put, but where one line alone has more.
-const GATHERED: usize = 65_536;
+/// How many bytes the head has.
+const HEAD: usize = HEAD_BYTES as usize;
 
 /// The memory of a rebuild: the bytes of the whole file, of one symbol, of one symbol for each recipe, of one symbol for
 /// each read of a script, and of the lines of replies that are gathered.
@@ -51,20 +54,25 @@ impl Model for Room {
 }
 
 impl Room {
-    /// All memory that a rebuild with this head, this plan and these reads takes.
+    /// All memory that a rebuild with this head, these plans and these reads takes.
     ///
     /// It answers `NoMemory` also where the bytes of all replies are too many for a `usize`.
-    pub fn new(alloc: Global, head: &ImageHead, plan: &Plan, asks: &[Ask]) -> Result<Room, NoMemory>
-        ensures { IfOk result (IsRoomFor head.now plan.now asks.now) }
+    pub fn new(
+        alloc: Global,
+        head: &ImageHead,
+        plans: &Plans,
+        asks: &[Ask],
+    ) -> Result<Room, NoMemory>
+        ensures { IfOk result (IsRoomFor head.now plans.now asks.now) }
     {
         let size = head.bytes() as usize;
         let reply_bytes = asks.len().checked_mul(size).ok_or(NoMemory)?;
         Ok(Room {
             image: vec![in alloc; 0; head.file_bytes() as usize]?,
             buf: vec![in alloc; 0; size]?,
-            lost: vec![in alloc; 0; plan.recipes().len() * size]?,
+            lost: vec![in alloc; 0; plans.at(0).recipes().len() * size]?,
             replies: vec![in alloc; 0; reply_bytes]?,
-            line: vec![in alloc; 0; (2 * size + 32).max(GATHERED)]?,
+            line: vec![in alloc; 0; (2 * size + LINE_FRAME).max(GATHERED)]?,
         })
     }
 }
@@ -83,7 +91,7 @@ pub struct Rebuilt {
 /// The bytes of the image file in which each symbol with a recipe is rebuilt, and the others are as they are; and the
 /// symbols of that image that a script reads.
 ///
-/// `mend_eye` reads the symbols of the plan's set in each stripe, and `copy_eye` those without a recipe, each once.
+/// `mend_eye` reads in each stripe the symbols of the set of its plan, and `copy_eye` those without a recipe, each once.
 /// Between the two `live_eye` reads, for each of the asks, a symbol without a recipe. It takes no memory besides the
 /// room. A read that fails is answered at once.
 pub fn rebuild<E: Eye>(
@@ -96,30 +104,31 @@ pub fn rebuild<E: Eye>(
     requires mend_eye { HasImage rebuild.now.head.now (E.sight mend_eye.old) }
     requires live_eye { HasImage rebuild.now.head.now (E.sight live_eye.old) }
     requires copy_eye { HasImage rebuild.now.head.now (E.sight copy_eye.old) }
-    requires plan { IsMendable rebuild.now.head.now rebuild.now.plan.now }
+    requires plans { AreMendable rebuild.now.head.now rebuild.now.plans.now }
     requires asks { All (IsInRange rebuild.now.head.now) rebuild.now.asks.now }
-    requires room { IsRoomFor rebuild.now.head.now rebuild.now.plan.now rebuild.now.asks.now room }
+    requires room { IsRoomFor rebuild.now.head.now rebuild.now.plans.now rebuild.now.asks.now room }
     ensures rebuilt { IfOk result (λ rebuilt. IfSome (E.sight mend_eye.old).bytes (λ bytes.
         (E.sight live_eye.old).bytes ≡ Some bytes → (E.sight copy_eye.old).bytes ≡ Some bytes
         → rebuilt.image.items
-        ≡ mended_file rebuild.now.head.now rebuild.now.plan.now.recipes bytes)) }
+        ≡ mended_file rebuild.now.head.now (recipes_at rebuild.now.plans.now) bytes)) }
     ensures replies { IfOk result (λ rebuilt. IfSome (E.sight mend_eye.old).bytes (λ bytes.
         (E.sight live_eye.old).bytes ≡ Some bytes → (E.sight copy_eye.old).bytes ≡ Some bytes
         → rebuilt.replies.items ≡ reply_bytes
-        (mended rebuild.now.head.now (every_stripe rebuild.now.plan.now.recipes)
+        (mended rebuild.now.head.now (recipes_at rebuild.now.plans.now)
         (image_of rebuild.now.head.now bytes)) rebuild.now.asks.now)) }
     ensures count { IfOk result (λ rebuilt. length rebuilt.replies.items
         ≡ length rebuild.now.asks.now * rebuild.now.head.now.symbol_bytes) }
     ensures line { IfOk result (λ rebuilt.
         line_room rebuild.now.head.now ≤ length rebuilt.line.items) }
     ensures mend_taken { OnOk result (E.sight mend_eye.new ≡ sight_with (E.sight mend_eye.old)
-        (rebuild.now.head.now.stripes * (length (members rebuild.now.plan.now.set)
-        * rebuild.now.head.now.symbol_bytes))) }
+        (members_read rebuild.now.plans.now rebuild.now.head.now.stripes
+        * rebuild.now.head.now.symbol_bytes)) }
     ensures live_taken { OnOk result (E.sight live_eye.new ≡ sight_with (E.sight live_eye.old)
-        (live_reads rebuild.now.head.now rebuild.now.plan.now.recipes rebuild.now.asks.now)) }
+        (live_reads rebuild.now.head.now (recipes_at rebuild.now.plans.now) rebuild.now.asks.now)) }
     ensures copy_taken { OnOk result (E.sight copy_eye.new ≡ sight_with (E.sight copy_eye.old)
         (rebuild.now.head.now.stripes
-        * (length (members (copied_set rebuild.now.head.now rebuild.now.plan.now.recipes))
+        * (length (members (copied_set rebuild.now.head.now
+        (recipes_at rebuild.now.plans.now 0)))
         * rebuild.now.head.now.symbol_bytes))) }
     ensures mend_file { IsSameFile (E.sight mend_eye.old) (E.sight mend_eye.new) }
     ensures live_file { IsSameFile (E.sight live_eye.old) (E.sight live_eye.new) }
@@ -144,7 +153,7 @@ pub fn rebuild<E: Eye>(
     print_head(rebuild.head, &mut image);
     mend_all(mend_eye, rebuild, &mut buf, &mut lost, &mut image)?;
     serve_asks(live_eye, rebuild, &image, &mut replies)?;
-    copy_survivors(copy_eye, rebuild.head, rebuild.plan, &mut image)?;
+    copy_survivors(copy_eye, rebuild.head, rebuild.plans, &mut image)?;
     Ok(Rebuilt {
         image,
         replies,
@@ -152,11 +161,11 @@ pub fn rebuild<E: Eye>(
     })
 }
 
-/// Makes the first 32 bytes the head.
+/// Makes the first bytes the head.
 fn print_head(head: &ImageHead, image: &mut [u8])
     requires { length image.old ≡ file_bytes head.now }
-    ensures { take 32 image.new ≡ head_bytes head.now }
+    ensures { take HEAD_BYTES image.new ≡ head_bytes head.now }
 {
     let bytes = head.print();
-    image[..32].copy_from_slice(&bytes);
+    image[..HEAD].copy_from_slice(&bytes);
 }

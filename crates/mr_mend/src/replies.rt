@@ -7,6 +7,7 @@ ghost use Rattle.mr_io.specs.Taking.{Puts, TakesPart};
 ghost use Rattle.mr_mend.specs.Replies.{PutsFront, buffer_lines, line_room, reply_front, reply_line};
 
 use crate::asks::Ask;
+use crate::limits::LINE_FRAME;
 use arrayvec::ArrayVec;
 use itoa::Buffer;
 use mr_image::ImageHead;
@@ -18,7 +19,8 @@ const ROOM: usize = 31;
 /// Puts the line of each reply: `reply `, the stripe, the symbol, and the bytes of the symbol as two lower-case hexadecimal
 /// digits each. The replies stand one after another in `replies`, in the order of the asks, each of the bytes of one symbol.
 ///
-/// The lines are gathered in `lines`, which has room for one at least: two bytes for each byte of a symbol, and 32 more.
+/// The lines are gathered in `lines`, which has room for one at least: two bytes for each byte of a symbol, and
+/// `LINE_FRAME` more.
 /// They are put where there is no room for another, and at the end. It takes no memory. After `Failed` the sink took a
 /// front of the lines that is not all.
 pub fn print_replies<K: Sink>(
@@ -38,7 +40,7 @@ pub fn print_replies<K: Sink>(
     let mut gathered = 0;
     for (k, ask) in asks.iter().enumerate() {
         let at = k * size;
-        gathered = put_where_full(out, lines, gathered, 2 * size + 32)?;
+        gathered = put_where_full(out, lines, gathered, 2 * size + LINE_FRAME)?;
         gathered += write_line(*ask, &replies[at..at + size], &mut lines[gathered..]);
     }
     put_all(out, &lines[..gathered])
@@ -71,7 +73,7 @@ fn put_where_full<K: Sink>(
 
 /// Makes the front of `line` that line, and says where it ends.
 fn write_line(ask: Ask, symbol: &[u8], line: &mut [u8]) -> usize
-    requires { 2 * length symbol.now + 32 ≤ length line.old }
+    requires { 2 * length symbol.now + LINE_FRAME ≤ length line.old }
     ensures line { take result line.new ≡ reply_line ask symbol.now }
     ensures within { result ≤ length line.new }
 {

@@ -3,16 +3,14 @@
 ghost use Rattle.std.specs.Prelude.{◌≡◌, ℕ, ◌==◌, ◌+◌, ◌<◌, ◌≤◌, ◌⊎◌, Some, Ok, Err, length, All, IfOk, IfErr, IfSome, IsErrOf, MatchOption};
 ghost use Rattle.mr_text.specs.Lines.{pieces};
 ghost use Rattle.mr_bits.specs.declared.errors.Large.{Large};
-ghost use Rattle.mr_mend.specs.Scripts.{HasFirstBadLine, HasLargeReplies, IsInRange, ask_of, asks_from, asks_of, joined, script_limit, script_text};
+ghost use Rattle.mr_mend.specs.Scripts.{HasFirstBadLine, HasLargeReplies, IsInRange, ask_of, asks_from, asks_of, ask_before, script_limit, script_text};
 
 use crate::asks::{Ask, ScriptFault};
+use crate::limits::REPLY_LIMIT;
 use mr_bits::{Large, What};
 use mr_image::ImageHead;
 use mr_text::{read_number, split_at_byte};
 use std::alloc::Global;
-
-/// The most bytes of all replies.
-const REPLY_LIMIT: u64 = 67_108_864;
 
 /// The reads that a script asks for, in order: on each line the number of a stripe of the image, one space, and the
 /// number of a symbol of a stripe. The last line has its line feed too. An empty script asks for nothing.
@@ -72,7 +70,7 @@ fn next_ask<'a>(left: &'a [u8], head: &ImageHead) -> Option<(Ask, &'a [u8])>
     ensures value { (n : ℕ) → MatchOption result
         (asks_from head.now n (pieces 10 left.now) ≡ Err (ScriptFault.Line n))
         (λ next. asks_from head.now n (pieces 10 left.now)
-        ≡ joined n (Some next.0) (asks_from head.now (n + 1) (pieces 10 next.1.now))) }
+        ≡ ask_before n (Some next.0) (asks_from head.now (n + 1) (pieces 10 next.1.now))) }
     ensures in_range { IfSome result (λ next. IsInRange head.now next.0) }
     ensures shorter { IfSome result (λ next. length next.1.now < length left.now) }
 {

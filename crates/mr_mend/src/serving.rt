@@ -1,9 +1,11 @@
 ghost use Rattle.std.specs.Prelude.{◌≡◌, ◌*◌, [], ◌∷◌, length, All, IfSome, OnOk};
 ghost use Rattle.mr_io.specs.Counts.{HasCause};
 ghost use Rattle.mr_io.specs.Sights.{sight_with};
-ghost use Rattle.mr_image.specs.Images.{every_stripe, image_of, mended};
+ghost use Rattle.mr_image.specs.Images.{image_of, mended};
 ghost use Rattle.mr_image.specs.Heads.{file_bytes};
-ghost use Rattle.mr_mend.specs.Mending.{HasImage, HoldsMended, IsSameFile};
+ghost use Rattle.mr_image.specs.Sights.{HasImage, IsSameFile};
+ghost use Rattle.mr_plan.specs.PlanLists.{recipes_at};
+ghost use Rattle.mr_mend.specs.Mending.{HoldsMended};
 ghost use Rattle.mr_mend.specs.Scripts.{IsInRange};
 ghost use Rattle.mr_mend.specs.Serving.{live_reads, reply_bytes};
 
@@ -29,13 +31,13 @@ pub fn serve_asks<E: Eye>(
     requires replies { length replies.old
         ≡ length rebuild.now.asks.now * rebuild.now.head.now.symbol_bytes }
     ensures served { OnOk result (IfSome (E.sight eye.old).bytes (λ bytes.
-        HoldsMended rebuild.now.head.now rebuild.now.plan.now.recipes
+        HoldsMended rebuild.now.head.now (recipes_at rebuild.now.plans.now)
         (image_of rebuild.now.head.now bytes) image.now
         → replies.new ≡ reply_bytes
-        (mended rebuild.now.head.now (every_stripe rebuild.now.plan.now.recipes)
+        (mended rebuild.now.head.now (recipes_at rebuild.now.plans.now)
         (image_of rebuild.now.head.now bytes)) rebuild.now.asks.now)) }
     ensures taken { OnOk result (E.sight eye.new ≡ sight_with (E.sight eye.old)
-        (live_reads rebuild.now.head.now rebuild.now.plan.now.recipes rebuild.now.asks.now)) }
+        (live_reads rebuild.now.head.now (recipes_at rebuild.now.plans.now) rebuild.now.asks.now)) }
     ensures file { IsSameFile (E.sight eye.old) (E.sight eye.new) }
     ensures cause { HasCause (E.faults eye.old) (E.faults eye.new) result }
 {
@@ -61,17 +63,17 @@ fn serve_ask<E: Eye>(
     requires image { length image.now ≡ file_bytes rebuild.now.head.now }
     requires reply { length reply.old ≡ rebuild.now.head.now.symbol_bytes }
     ensures served { OnOk result (IfSome (E.sight eye.old).bytes (λ bytes.
-        HoldsMended rebuild.now.head.now rebuild.now.plan.now.recipes
+        HoldsMended rebuild.now.head.now (recipes_at rebuild.now.plans.now)
         (image_of rebuild.now.head.now bytes) image.now
-        → reply.new ≡ mended rebuild.now.head.now (every_stripe rebuild.now.plan.now.recipes)
+        → reply.new ≡ mended rebuild.now.head.now (recipes_at rebuild.now.plans.now)
         (image_of rebuild.now.head.now bytes) ask.stripe ask.symbol)) }
     ensures taken { OnOk result (E.sight eye.new ≡ sight_with (E.sight eye.old)
-        (live_reads rebuild.now.head.now rebuild.now.plan.now.recipes (ask ∷ []))) }
+        (live_reads rebuild.now.head.now (recipes_at rebuild.now.plans.now) (ask ∷ []))) }
     ensures file { IsSameFile (E.sight eye.old) (E.sight eye.new) }
     ensures cause { HasCause (E.faults eye.old) (E.faults eye.new) result }
 {
     let place = rebuild.head.place(ask.stripe, ask.symbol);
-    if !is_rebuilt(rebuild.plan.recipes(), ask.symbol) {
+    if !is_rebuilt(rebuild.plans.at(ask.stripe).recipes(), ask.symbol) {
         return eye.read_at(place, reply);
     }
     let at = place as usize;

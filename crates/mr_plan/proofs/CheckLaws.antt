@@ -16,7 +16,7 @@ use Rattle.mr_model.specs.Code.{Code, is_equation}
 use Rattle.mr_model.specs.Plans.{Recipe, IsValidPlan}
 use Rattle.mr_model.proofs.SetLaws.{has-true, has-false, true-has, bit_at_cases, bit_at_minus, within-true, true-within, Within-le, Within-minus, member-below}
 use Rattle.mr_model.proofs.Finding.{FindsMember, find_member-finds, find_member-is, find_member-none}
-use Rattle.mr_model.proofs.Loops.{members-none}
+use Rattle.mr_model.proofs.Loops.{has-same, members-none}
 use Rattle.mr_plan.specs.declared.errors.Wrong.{Wrong}
 use Rattle.mr_plan.specs.declared.errors.Why.TheVariants.{NotSurvivor, Missing, Stray, Spare}
 use Rattle.mr_plan.specs.Plans.{PlanParts, survivors}
@@ -90,14 +90,10 @@ recipes-turn m set rs k r low here = ap (recipes_fault m set) (recipes-from rs k
 
 -- ---- the union of the recipes
 
-same_bit : (x y i : ℕ) → bit_at x i ≡ bit_at y i → has x i ≡ has y i
-unfolding has
-same_bit x y i e = ap (λ b. b == 1) e
-
 has_or : (u s i : ℕ) → has (bit_or u s) i ≡ (has u i || has s i)
 has_or u s i = ⊎_elim
     (λ member. has-true (bit_or u s) i (omega (arith, member, bit_at_or u s i, bit_at-lt s i)) ∙ ap (λ b. b || has s i) (sym (has-true u i member)))
-    (λ out. same_bit (bit_or u s) s i (omega (arith, out, bit_at_or u s i, bit_at-lt s i)) ∙ ap (λ b. b || has s i) (sym (has-false u i out)))
+    (λ out. has-same (bit_or u s) s i (omega (arith, out, bit_at_or u s i, bit_at-lt s i)) ∙ ap (λ b. b || has s i) (sym (has-false u i out)))
     (bit_at_cases u i)
 
 pub needed-turn : (u s i k : ℕ) (rs : List Recipe) (r : Recipe) → k < length rs → r ≡ get_or rs k r → s ≡ r.equation

@@ -14,7 +14,8 @@ use Rattle.mr_plan.specs.Plans.{PlanParts, IsNext, AreUpward, IsPlan}
 use Rattle.mr_plan.specs.PlanText.{head_text, set_text, recipe_text, plan_text, IsPlanText}
 use Rattle.mr_plan.specs.Readings.{recipe_of, kind_of, set_of, ◌>>=◌, bad_line, next_line, is_over, read_recipes, read_plan}
 use Rattle.mr_plan.proofs.ReadLaws.{next-is, from_recipes, from_set, from_second, from_head}
-use Rattle.mr_plan.proofs.LineLaws.{bytes_same, same_bytes, set_of-read, set_of-printed, recipe_of-read, recipe_of-printed, kind_of-read, kind_of-printed}
+use Rattle.mr_text.proofs.NumberLaws.{bytes_eq_true}
+use Rattle.mr_plan.proofs.LineLaws.{same_bytes, set_of-read, set_of-printed, recipe_of-read, recipe_of-printed, kind_of-read, kind_of-printed}
 use Rattle.mr_plan.proofs.PlanReadLaws.{last_lines, plan-lines, not_end, some_of}
 
 -- ---- lists
@@ -132,7 +133,7 @@ module _ (line least : ℕ) (first : List ℕ) (left : List (List ℕ)) (e : Pla
     place = 1;
     number = ap (λ (l : PlanLine). l.line) (sym (err_same h));
     first = record {
-      before = record { recipes = []; upward = tt; ended = omega (arith, some); whole = omega arith; same = ap (λ l. l ∷ []) (bytes_same first (codes "end") is) };
+      before = record { recipes = []; upward = tt; ended = omega (arith, some); whole = omega arith; same = ap (λ l. l ∷ []) (bytes_eq_true first (codes "end") is) };
       bad = no_more least first left is;
     };
   }

@@ -1,5 +1,6 @@
 pub mod MemberLists
 pub mod PlanLaws
+pub mod PlanListLaws
 pub mod TextLaws
 pub mod FourParts
 pub mod CheckLaws
@@ -9,4 +10,3 @@ pub mod SpellLaws
 pub mod LineLaws
 pub mod PlanReadLaws
 pub mod FirstBadLaws
-pub mod CutLaws

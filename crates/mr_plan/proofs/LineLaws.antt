@@ -14,7 +14,7 @@ use Rattle.std.proofs.lemmas.Str.Parse.{not_in_digits}
 use Rattle.mr_model.specs.Members.{members}
 use Rattle.mr_model.specs.Plans.{Recipe}
 use Rattle.mr_model.proofs.SetLaws.{member-below}
-use Rattle.mr_text.proofs.NumberLaws.{digits_model}
+use Rattle.mr_text.proofs.NumberLaws.{digits_model, bytes_eq_true}
 use Rattle.mr_plan.specs.declared.kinds.Kind.{Kind}
 use Rattle.mr_plan.specs.declared.kinds.Kind.TheVariants.{Least, Spent, Given}
 use Rattle.mr_plan.specs.Plans.{IsNext}
@@ -24,6 +24,7 @@ use Rattle.mr_plan.specs.Readings.{symbol_of, set_of_words, set_after, recipe_of
 use Rattle.mr_plan.proofs.MemberLists.{members-All}
 use Rattle.mr_text.proofs.LineLaws.{pieces-same}
 use Rattle.mr_plan.proofs.SpellLaws.{IsSymbol, symbol-read, symbol-printed, set-read, set-printed}
+use Rattle.mr_plan.proofs.ReadLaws.{recipe_by}
 
 -- ---- bytes that do not occur
 
@@ -67,10 +68,7 @@ recipe_words r small low =
 
 -- ---- a set behind a word
 
--- two texts that compare as one are one
-pub bytes_same : (xs ys : List ℕ) → bytes_eq xs ys ≡ true → xs ≡ ys
-bytes_same xs ys e = (bytes_eq-Decides xs ys).0 e
-
+-- a text compares as itself
 pub same_bytes : (xs : List ℕ) → bytes_eq xs xs ≡ true
 same_bytes xs = (bytes_eq-Decides xs xs).1 refl
 
@@ -84,7 +82,7 @@ set_after-read word [] set e = cc
 set_after-read word (first ∷ words) set e = go (bytes_eq first word) refl e
   where
     go : (b : Bool) → bytes_eq first word ≡ b → cond b (set_of_words 0 words) None ≡ Some set → IsSetAfter word (first ∷ words) set
-    go true is e = let h = set-read 0 words set e in record { spelled = ap₂ (λ w ws. w ∷ ws) (bytes_same first word is) h.spelled; low = h.low }
+    go true is e = let h = set-read 0 words set e in record { spelled = ap₂ (λ w ws. w ∷ ws) (bytes_eq_true first word is) h.spelled; low = h.low }
     go false is e = cc
 
 set_after-printed : (word : List ℕ) (set : ℕ) → set < 2 ^ 128 → set_after word (word ∷ map decimal (members set)) ≡ Some set
@@ -114,24 +112,21 @@ pub record IsRecipeLine (least : ℕ) (line : List ℕ) (r : Recipe) : Type 0 wh
   pub spelled : line ≡ recipe_text r
   pub next : IsNext least r
 
-abbrev made : ℕ → ℕ → Recipe
-made n s = record { symbol = n; equation = s }
-
-recipe_line : (least n s : ℕ) (line first : List ℕ) (words : List (List ℕ)) → pieces 32 line ≡ first ∷ words → IsSymbol least first n → IsSetAfter (codes "=") words s → IsRecipeLine least line (made n s)
+recipe_line : (least n s : ℕ) (line first : List ℕ) (words : List (List ℕ)) → pieces 32 line ≡ first ∷ words → IsSymbol least first n → IsSetAfter (codes "=") words s → IsRecipeLine least line (recipe_by n s)
 recipe_line least n s line first words cut symbol after = record {
-  spelled = pieces-same 32 line (recipe_text (made n s)) (cut ∙ ap₂ (λ w ws. w ∷ ws) symbol.spelled after.spelled ∙ sym (recipe_words (made n s) symbol.low after.low));
+  spelled = pieces-same 32 line (recipe_text (recipe_by n s)) (cut ∙ ap₂ (λ w ws. w ∷ ws) symbol.spelled after.spelled ∙ sym (recipe_words (recipe_by n s) symbol.low after.low));
   next = record { later = symbol.later; symbol = symbol.low; sources = after.low };
 }
 
 recipe_sources : (least n : ℕ) (line first : List ℕ) (words : List (List ℕ)) (o : Option ℕ) (r : Recipe) → pieces 32 line ≡ first ∷ words → IsSymbol least first n → set_after (codes "=") words ≡ o
-    → option_map (made n) o ≡ Some r → IsRecipeLine least line r
+    → option_map (recipe_by n) o ≡ Some r → IsRecipeLine least line r
 recipe_sources least n line first words None r cut symbol is e = cc
 recipe_sources least n line first words (Some s) r cut symbol is e =
-    let same : made n s ≡ r = cc in
+    let same : recipe_by n s ≡ r = cc in
     subst (IsRecipeLine least line) same (recipe_line least n s line first words cut symbol (set_after-read (codes "=") words s is))
 
 recipe_symbol : (least : ℕ) (line first : List ℕ) (words : List (List ℕ)) (o : Option ℕ) (r : Recipe) → pieces 32 line ≡ first ∷ words → symbol_of least first ≡ o
-    → option_and_then (λ n. option_map (made n) (set_after (codes "=") words)) o ≡ Some r → IsRecipeLine least line r
+    → option_and_then (λ n. option_map (recipe_by n) (set_after (codes "=") words)) o ≡ Some r → IsRecipeLine least line r
 recipe_symbol least line first words None r cut is e = cc
 recipe_symbol least line first words (Some n) r cut is e = recipe_sources least n line first words (set_after (codes "=") words) r cut (symbol-read least first n is) refl e
 
@@ -147,8 +142,8 @@ pub recipe_of-printed : (least : ℕ) (r : Recipe) → IsNext least r → recipe
 unfolding recipe_of
 recipe_of-printed least r next =
     ap (recipe_of_words least) (recipe_words r next.symbol next.sources)
-    ∙ ap (option_and_then (λ n. option_map (made n) (set_after (codes "=") (codes "=" ∷ map decimal (members r.equation))))) (symbol-printed least r.symbol next.later next.symbol)
-    ∙ ap (option_map (made r.symbol)) (set_after-printed (codes "=") r.equation next.sources)
+    ∙ ap (option_and_then (λ n. option_map (recipe_by n) (set_after (codes "=") (codes "=" ∷ map decimal (members r.equation))))) (symbol-printed least r.symbol next.later next.symbol)
+    ∙ ap (option_map (recipe_by r.symbol)) (set_after-printed (codes "=") r.equation next.sources)
 
 -- ---- the first line
 
@@ -157,16 +152,16 @@ unfolding kind_of
 kind_of-read line kind e = least (bytes_eq line (head_text Least)) refl e
   where
     given : (b : Bool) → bytes_eq line (head_text Given) ≡ b → cond b (Some Given) None ≡ Some kind → line ≡ head_text kind
-    given true is e = let same : Given ≡ kind = cc in bytes_same line (head_text Given) is ∙ ap head_text same
+    given true is e = let same : Given ≡ kind = cc in bytes_eq_true line (head_text Given) is ∙ ap head_text same
     given false is e = cc
 
     spent : (b : Bool) → bytes_eq line (head_text Spent) ≡ b → cond b (Some Spent) (cond (bytes_eq line (head_text Given)) (Some Given) None) ≡ Some kind → line ≡ head_text kind
-    spent true is e = let same : Spent ≡ kind = cc in bytes_same line (head_text Spent) is ∙ ap head_text same
+    spent true is e = let same : Spent ≡ kind = cc in bytes_eq_true line (head_text Spent) is ∙ ap head_text same
     spent false is e = given (bytes_eq line (head_text Given)) refl e
 
     least : (b : Bool) → bytes_eq line (head_text Least) ≡ b
         → cond b (Some Least) (cond (bytes_eq line (head_text Spent)) (Some Spent) (cond (bytes_eq line (head_text Given)) (Some Given) None)) ≡ Some kind → line ≡ head_text kind
-    least true is e = let same : Least ≡ kind = cc in bytes_same line (head_text Least) is ∙ ap head_text same
+    least true is e = let same : Least ≡ kind = cc in bytes_eq_true line (head_text Least) is ∙ ap head_text same
     least false is e = spent (bytes_eq line (head_text Spent)) refl e
 
 pub kind_of-printed : (kind : Kind) → kind_of (head_text kind) ≡ Some kind

@@ -7,12 +7,9 @@ use Rattle.std.proofs.lemmas.List.Elements.{All-nil, All-cons}
 use Rattle.mr_model.specs.Sets.{has}
 use Rattle.mr_model.specs.Members.{members}
 use Rattle.mr_model.specs.Plans.{Recipe}
+use Rattle.mr_model.proofs.Loops.{ranged}
 use Rattle.mr_model.proofs.SetLaws.{has-true, true-has}
 use Rattle.mr_plan.specs.Plans.{IsNext, AreUpward}
-
--- the members of x from a on, n numbers
-abbrev ranged : ℕ → ℕ → ℕ → List ℕ
-ranged n a x = filter (has x) (range_with_len a n)
 
 -- ---- each member
 

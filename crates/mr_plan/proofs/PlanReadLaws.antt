@@ -20,7 +20,8 @@ use Rattle.mr_text.specs.Lines.{pieces}
 use Rattle.mr_plan.specs.Readings.{symbol_of, recipe_of, kind_of, set_of, ◌>>=◌, bad_line, next_line, is_over, read_recipes, read_plan}
 use Rattle.mr_text.proofs.LineLaws.{pieces-same}
 use Rattle.mr_plan.proofs.ReadLaws.{next-is, over-is, from_recipes, from_set, from_second, from_head, all_read}
-use Rattle.mr_plan.proofs.LineLaws.{bytes_same, Without, IsRecipeLine, decimal-without, members-without, members-low, set_of-read, set_of-printed, recipe_of-read, recipe_of-printed, kind_of-read, kind_of-printed}
+use Rattle.mr_text.proofs.NumberLaws.{bytes_eq_true}
+use Rattle.mr_plan.proofs.LineLaws.{Without, IsRecipeLine, decimal-without, members-without, members-low, set_of-read, set_of-printed, recipe_of-read, recipe_of-printed, kind_of-read, kind_of-printed}
 
 -- ---- no line feed stands within a line
 
@@ -77,7 +78,7 @@ end_none least = refl
 
 pub not_end : (least : ℕ) (r : Recipe) → IsNext least r → bytes_eq (recipe_text r) (codes "end") ≡ false
 not_end least r next = false_from_ne_true _ (λ e.
-    let wrong : Some r ≡ None = sym (recipe_of-printed least r next) ∙ ap (recipe_of least) (bytes_same (recipe_text r) (codes "end") e) ∙ end_none least in
+    let wrong : Some r ≡ None = sym (recipe_of-printed least r next) ∙ ap (recipe_of least) (bytes_eq_true (recipe_text r) (codes "end") e) ∙ end_none least in
     absurd cc)
 
 -- something follows
@@ -122,7 +123,7 @@ then_end : (line least : ℕ) (first : List ℕ) (left : List (List ℕ)) (rs : 
     → cond over (Ok []) (Err (bad_line (line + 1))) ≡ Ok rs → AreRecipeLines least (first ∷ left) rs
 then_end line least first left rs true is over e =
     let same : [] ≡ rs = cc in
-    subst (AreRecipeLines least (first ∷ left)) same (record { spelled = ap₂ (λ l ls. l ∷ ls) (bytes_same first (codes "end") is) (over-is left over); upward = tt })
+    subst (AreRecipeLines least (first ∷ left)) same (record { spelled = ap₂ (λ l ls. l ∷ ls) (bytes_eq_true first (codes "end") is) (over-is left over); upward = tt })
 then_end line least first left rs false is over e = cc
 
 then_line : (line least : ℕ) (first : List ℕ) (left : List (List ℕ)) (rs : List Recipe) (rest : Recipe → Result (List Recipe) PlanLine) (end : Bool) → bytes_eq first (codes "end") ≡ end

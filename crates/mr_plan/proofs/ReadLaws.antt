@@ -13,11 +13,7 @@ use Rattle.mr_plan.specs.Readings.{words_of, symbol_of, set_of_words, set_after,
 use Rattle.mr_plan.specs.declared.kinds.Kind.{Kind}
 use Rattle.mr_plan.specs.Plans.{PlanParts}
 use Rattle.mr_text.proofs.LineLaws.{pieces-same, pieces-some}
-
--- a list of no items is empty
-pub empty_list : {X : Type 0} (xs : List X) → length xs ≡ 0 → xs ≡ []
-empty_list [] e = refl
-empty_list (x ∷ xs) e = absurd (omega (arith, e))
+use Rattle.mr_io.proofs.Returns.{none-left}
 
 -- ---- the words of a set
 
@@ -218,11 +214,12 @@ module _ (all : Result (List Recipe) PlanLine) (recipes : List Recipe) (line lea
 
 -- ---- the words of a recipe
 
-abbrev made : ℕ → ℕ → Recipe
-made n s = record { symbol = n; equation = s }
+-- the recipe of n by the set s
+abbrev pub recipe_by : ℕ → ℕ → Recipe
+recipe_by n s = record { symbol = n; equation = s }
 
 abbrev with_sources : List (List ℕ) → ℕ → Option Recipe
-with_sources words n = option_map (made n) (set_after (codes "=") words)
+with_sources words n = option_map (recipe_by n) (set_after (codes "=") words)
 
 module _ (least : ℕ) (line first : List ℕ) (words : List (List ℕ)) where
   pub recipe-no_symbol : pieces 32 line ≡ first ∷ words → None ≡ symbol_of least first → None ≡ recipe_of least line
@@ -231,18 +228,18 @@ module _ (least : ℕ) (line first : List ℕ) (words : List (List ℕ)) where
 
   pub recipe-no_sources : (n : ℕ) → pieces 32 line ≡ first ∷ words → Some n ≡ symbol_of least first → None ≡ set_after (codes "=") words → None ≡ recipe_of least line
   unfolding recipe_of
-  recipe-no_sources n cut is none = sym (ap (recipe_of_words least) cut ∙ ap (option_and_then (with_sources words)) (sym is) ∙ ap (option_map (made n)) (sym none))
+  recipe-no_sources n cut is none = sym (ap (recipe_of_words least) cut ∙ ap (option_and_then (with_sources words)) (sym is) ∙ ap (option_map (recipe_by n)) (sym none))
 
-  pub recipe-some : (n s : ℕ) → pieces 32 line ≡ first ∷ words → Some n ≡ symbol_of least first → Some s ≡ set_after (codes "=") words → Some (made n s) ≡ recipe_of least line
+  pub recipe-some : (n s : ℕ) → pieces 32 line ≡ first ∷ words → Some n ≡ symbol_of least first → Some s ≡ set_after (codes "=") words → Some (recipe_by n s) ≡ recipe_of least line
   unfolding recipe_of
-  recipe-some n s cut is has = sym (ap (recipe_of_words least) cut ∙ ap (option_and_then (with_sources words)) (sym is) ∙ ap (option_map (made n)) (sym has))
+  recipe-some n s cut is has = sym (ap (recipe_of_words least) cut ∙ ap (option_and_then (with_sources words)) (sym is) ∙ ap (option_map (recipe_by n)) (sym has))
 
 -- what it is that nothing follows
 pub over-is : (ps : List (List ℕ)) → is_over ps ≡ true → ps ≡ [] ∷ []
 over-is [] e = cc
 over-is (p ∷ ps) e =
     let parts = and_parts (length p == 0) (length ps == 0) e in
-    ap₂ (λ x xs. x ∷ xs) (empty_list p (eqb-true _ _ parts.0)) (empty_list ps (eqb-true _ _ parts.1))
+    ap₂ (λ x xs. x ∷ xs) (none-left p (eqb-true _ _ parts.0)) (none-left ps (eqb-true _ _ parts.1))
 
 -- nothing follows exactly where no byte does
 pub is_over-pieces : (bytes : List ℕ) → is_over (pieces 10 bytes) ≡ (length bytes == 0)

@@ -1,4 +1,5 @@
 pub mod Plans
+pub mod PlanLists
 pub mod PlanText
 pub mod Checks
 pub mod Faults

@@ -5,6 +5,7 @@ use Rattle.std.specs.Str.{bytes_eq}
 use Rattle.mr_model.specs.Plans.{Recipe}
 use Rattle.mr_text.specs.Lines.{pieces}
 use Rattle.mr_text.specs.Numbers.{number_of}
+use Rattle.mr_bits.specs.declared.matrices.TheConstants.{MOST_SYMBOLS}
 use Rattle.mr_plan.specs.declared.errors.PlanLine.{PlanLine}
 use Rattle.mr_plan.specs.declared.kinds.Kind.{Kind}
 use Rattle.mr_plan.specs.declared.kinds.Kind.TheVariants.{Least, Spent, Given}
@@ -20,10 +21,10 @@ words_of (Some bytes) = pieces 32 bytes
 
 -- ---- one line
 
--- the number of a symbol, from `least` to 127
+-- the number of a symbol, from `least` on
 unfoldable pub symbol_of : ℕ → List ℕ → Option ℕ
 symbol_of least word =
-    option_and_then (λ n. if nat_le least n && nat_lt n 128 then Some n else None) (number_of word)
+    option_and_then (λ n. if nat_le least n && nat_lt n MOST_SYMBOLS then Some n else None) (number_of word)
 
 -- the set of the symbols that these words are, strictly upwards from `least` on
 unfoldable pub set_of_words : ℕ → List (List ℕ) → Option ℕ

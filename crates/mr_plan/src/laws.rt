@@ -1,11 +1,9 @@
 //! What is proved of all plans and their texts. A call does nothing: its contract is the law.
 
-ghost use Rattle.std.specs.Prelude.{◌≡◌, ℕ, ◌+◌, ◌<◌, List, ◌++◌, length, take, Ok, Err};
-ghost use Rattle.mr_plan.specs.declared.errors.PlanLine.{PlanLine};
+ghost use Rattle.std.specs.Prelude.{◌≡◌, ℕ, List, Ok};
 ghost use Rattle.mr_plan.specs.Plans.{PlanParts, IsPlan};
 ghost use Rattle.mr_plan.specs.PlanText.{plan_text};
-ghost use Rattle.mr_text.specs.Lines.{pieces};
-ghost use Rattle.mr_plan.specs.Readings.{bad_line, read_plan};
+ghost use Rattle.mr_plan.specs.Readings.{read_plan};
 
 /// Printing and reading are inverse: the text of a plan is read as that plan, what is read as a plan is the text of
 /// that plan, and two plans with one text are one.
@@ -15,14 +13,4 @@ pub fn printing_and_reading_are_inverse()
     ensures spelled { (bytes : List ℕ) (plan : PlanParts)
         → read_plan bytes ≡ Ok plan → bytes ≡ plan_text plan }
     ensures one_text { (p q : PlanParts) → IsPlan p → IsPlan q → plan_text p ≡ plan_text q → p ≡ q }
-{}
-
-/// A text that is cut short is refused at its last line, which is missing or has no line feed, and a text that goes on
-/// behind its end at the line behind it.
-pub fn only_whole_texts_are_read()
-    ensures cut { (plan : PlanParts) (n : ℕ) → IsPlan plan → n < length (plan_text plan)
-        → read_plan (take n (plan_text plan))
-        ≡ Err (bad_line (length (pieces 10 (take n (plan_text plan))))) }
-    ensures extended { (plan : PlanParts) (more : List ℕ) → IsPlan plan → 0 < length more
-        → read_plan (plan_text plan ++ more) ≡ Err (bad_line (length plan.recipes + 4)) }
 {}

@@ -1,4 +1,4 @@
-//! The lines of a plan text, each built in a fixed buffer.
+//! The lines of a plan text, each built in a fixed buffer; other texts list members by the same calls.
 
 ghost use Rattle.std.specs.Prelude.{◌≡◌, ◌+◌, ◌≤◌, ◌++◌, ◌^◌, ◌<◌, [], ◌∷◌, length, decimal};
 ghost use Rattle.arrayvec.specs.ArrayVec.{array_vec_len};
@@ -8,13 +8,13 @@ use crate::kinds::Kind;
 use crate::recipes::Recipe;
 use arrayvec::ArrayVec;
 use itoa::Buffer;
-use mr_bits::Mask;
+use mr_bits::{MOST_SYMBOLS, Mask};
 
-/// Room for a line: `127 =`, 128 members of a space and up to three digits each, and a line feed.
-const ROOM: usize = 520;
+/// Room for a line: 128 members of a space and up to three digits each, and up to 24 bytes beside them.
+pub const LINE_ROOM: usize = 536;
 
-/// A line of a plan text.
-pub(crate) type Line = ArrayVec<u8, ROOM>;
+/// A line of a text.
+pub type Line = ArrayVec<u8, LINE_ROOM>;
 
 /// The first line.
 pub(crate) fn head_line(kind: Kind) -> &'static [u8]
@@ -40,7 +40,7 @@ pub(crate) fn set_line(set: Mask) -> Line
 
 /// The line of a recipe.
 pub(crate) fn recipe_line(recipe: &Recipe) -> Line
-    requires { recipe.now.symbol < 128 }
+    requires { recipe.now.symbol < MOST_SYMBOLS }
     ensures { result.items ≡ line_of (recipe_text recipe.now) }
 {
     let mut line = Line::new();
@@ -51,9 +51,9 @@ pub(crate) fn recipe_line(recipe: &Recipe) -> Line
     line
 }
 
-/// Appends a space and its number for each member.
-fn append_members(line: &mut Line, set: Mask)
-    requires { array_vec_len line.old + 512 ≤ ROOM }
+/// Appends a space and its number for each member. It takes no memory.
+pub fn append_members(line: &mut Line, set: Mask)
+    requires { array_vec_len line.old + 512 ≤ LINE_ROOM }
     ensures all { line.new.items ≡ line.old.items ++ members_text set }
     ensures room { array_vec_len line.new ≤ array_vec_len line.old + 512 }
 {
@@ -65,7 +65,7 @@ fn append_members(line: &mut Line, set: Mask)
 
 /// Appends a number.
 fn append_number(line: &mut Line, number: u8)
-    requires { array_vec_len line.old + 3 ≤ ROOM }
+    requires { array_vec_len line.old + 3 ≤ LINE_ROOM }
     ensures all { line.new.items ≡ line.old.items ++ decimal number }
     ensures room { array_vec_len line.new ≤ array_vec_len line.old + 3 }
 {
@@ -73,9 +73,9 @@ fn append_number(line: &mut Line, number: u8)
     append(line, buffer.format(number).as_bytes());
 }
 
-/// Appends bytes that fit.
-fn append(line: &mut Line, bytes: &[u8])
-    requires { array_vec_len line.old + length bytes.now ≤ ROOM }
+/// Appends bytes that fit. It takes no memory.
+pub fn append(line: &mut Line, bytes: &[u8])
+    requires { array_vec_len line.old + length bytes.now ≤ LINE_ROOM }
     ensures { line.new.items ≡ line.old.items ++ bytes.now }
 {
     let _ = line.try_extend_from_slice(bytes);

@@ -6,18 +6,18 @@ ghost use Rattle.mr_plan.specs.Plans.{IsPlan, plan_of, survivors};
 use crate::kinds::Kind;
 use crate::recipes::Recipe;
 use arrayvec::ArrayVec;
-use mr_bits::{Mask, Matrix};
+use mr_bits::{MOST_SYMBOLS, Mask, Matrix};
 use mr_null::Basis;
 use std::marker::Model;
 
 /// A plan of a rebuild: the set of survivors to read, and a recipe for each lost symbol.
 ///
-/// The recipes stand strictly upwards by symbol, each symbol below 128.
+/// The recipes stand strictly upwards by symbol, each symbol below `MOST_SYMBOLS`.
 #[derive(PartialEq, Eq, Debug, Drop)]
 pub struct Plan {
     kind: Kind,
     set: Mask,
-    recipes: ArrayVec<Recipe, 128>,
+    recipes: ArrayVec<Recipe, MOST_SYMBOLS>,
 }
 
 impl Model for Plan {
@@ -58,7 +58,7 @@ impl Plan {
     }
 
     /// The plan of these parts.
-    pub(crate) fn of_parts(kind: Kind, set: Mask, recipes: ArrayVec<Recipe, 128>) -> Plan
+    pub(crate) fn of_parts(kind: Kind, set: Mask, recipes: ArrayVec<Recipe, MOST_SYMBOLS>) -> Plan
         requires { IsPlan (record { kind = kind; set = set; recipes = recipes.items }) }
         ensures { result ≡ record { kind = kind; set = set; recipes = recipes.items } }
     {

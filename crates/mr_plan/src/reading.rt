@@ -12,7 +12,7 @@ use crate::kinds::Kind;
 use crate::plans::Plan;
 use crate::recipes::Recipe;
 use arrayvec::ArrayVec;
-use mr_bits::Mask;
+use mr_bits::{MOST_SYMBOLS, Mask};
 use mr_text::{read_number, split_at_byte};
 
 impl Plan {
@@ -45,7 +45,7 @@ fn read_lines(bytes: &[u8]) -> Result<Plan, PlanLine>
 }
 
 /// The recipes from line 3 on, up to the line `end`.
-fn recipe_lines(bytes: &[u8]) -> Result<ArrayVec<Recipe, 128>, PlanLine>
+fn recipe_lines(bytes: &[u8]) -> Result<ArrayVec<Recipe, MOST_SYMBOLS>, PlanLine>
     ensures { MatchResult result
         (λ recipes. read_recipes 3 0 (pieces 10 bytes.now) ≡ Ok recipes.items)
         (λ e. read_recipes 3 0 (pieces 10 bytes.now) ≡ Err e) }
@@ -114,7 +114,7 @@ fn read_set(line: &[u8]) -> Option<Mask>
 /// The recipe that a line names, of a symbol from `least` on.
 fn read_recipe(line: &[u8], least: u8) -> Option<Recipe>
     ensures value { result ≡ recipe_of least line.now }
-    ensures in_range { IfSome result (λ recipe. (least ≤ recipe.symbol) × (recipe.symbol < 128)) }
+    ensures in_range { IfSome result (λ recipe. (least ≤ recipe.symbol) × (recipe.symbol < MOST_SYMBOLS)) }
 {
     let (first, words) = first_word(line);
     let symbol = read_symbol(first, least)?;
@@ -154,10 +154,12 @@ fn read_members(words: Option<&[u8]>) -> Option<Mask>
 #[tactic(auto, unfolding(crate::specs::Readings::symbol_of))]
 fn read_symbol(word: &[u8], least: u8) -> Option<u8>
     ensures value { result ≡ symbol_of least word.now }
-    ensures in_range { IfSome result (λ symbol. (least ≤ symbol) × (symbol < 128)) }
+    ensures in_range { IfSome result (λ symbol. (least ≤ symbol) × (symbol < MOST_SYMBOLS)) }
 {
     match read_number(word) {
-        Some(number) if u32::from(least) <= number && number < 128 => Some(number as u8),
+        Some(number) if u32::from(least) <= number && number < MOST_SYMBOLS as u32 => Some(
+            number as u8,
+        ),
         _ => None,
     }
 }

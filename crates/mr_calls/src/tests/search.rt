@@ -29,9 +29,9 @@ fn nulls(rt: HostRuntime) -> Result<(), Fail> {
     Ok(())
 }
 
-/// The equations of the symbols of device 0 in the order of their indexes, and behind them the least one: there are two of
-/// two members for each symbol, and the lesser number is the first.
-static EQUATIONS: [[u128; 5]; 2] = [[20, 96, 184, 204, 20], [40, 92, 132, 240, 40]];
+/// The equations of the symbols of device 0 in the order of their indexes, and behind them the least one, as one thread
+/// and as threads find it: there are two of two members for each symbol, and the lesser number is the first.
+static EQUATIONS: [[u128; 6]; 2] = [[20, 96, 184, 204, 20, 20], [40, 92, 132, 240, 40, 40]];
 
 #[test]
 fn equations(rt: HostRuntime) -> Result<(), Fail> {
@@ -44,6 +44,7 @@ fn equations(rt: HostRuntime) -> Result<(), Fail> {
             list.push(equations.get(level, index))?;
         }
         list.push(equations.least(level))?;
+        list.push(equations.least_split(&rt, rt.alloc(), level)?)?;
         assert_masks(&rt, &list, &EQUATIONS[usize::from(level)]);
     }
     match Equations::of(rt.alloc(), &problem, 3) {

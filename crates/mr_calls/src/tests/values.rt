@@ -8,6 +8,7 @@ use mr_form::read_matrix;
 use std::alloc::Global;
 use std::process::Abort;
 use std::test::Fail;
+use std::thread::Threads;
 
 /// The matrix that a text spells.
 pub fn matrix_of(rt: &impl Abort, text: &str) -> Matrix {
@@ -41,7 +42,7 @@ pub fn problem_of(rt: &impl Abort, matrix: &Matrix, lost: Mask) -> Problem {
 
 /// The single equations of lost symbols, which the others determine.
 pub fn singles_of(
-    rt: &impl Abort,
+    rt: &(impl Abort + Threads + Sync),
     alloc: Global,
     matrix: &Matrix,
     lost: Mask,
@@ -53,7 +54,7 @@ pub fn singles_of(
     assert!(rt; lost <= matrix.all());
     let problem = Problem::new(matrix, matrix.all().minus(lost), lost);
     let _determined = problem.expect(rt, "the loss is determined");
-    Ok(Singles::of(alloc, matrix, lost, budget)?)
+    Ok(Singles::of(rt, alloc, matrix, lost, budget)?)
 }
 
 /// Asserts that the sets are those of these numbers, in order.
