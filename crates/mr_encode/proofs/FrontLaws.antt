@@ -1,9 +1,9 @@
--- Lists of bytes that are filled piece after piece: what stands in front.
-use Rattle.std.proofs.Common.{◌≡◌, ℕ, zero, suc, ◌+◌, ◌*◌, ◌≤◌, List, [], ◌++◌, take, drop, flat_map, length, sym, ap, ap₂, subst, ◌∙◌, arith, append_assoc, add-zero}
+-- Lists of bytes that are made piece after piece.
+use Rattle.std.proofs.Common.{◌≡◌, ℕ, zero, suc, ◌+◌, ◌*◌, ◌≤◌, List, ◌++◌, take, flat_map, length, sym, ap, ap₂, subst, ◌∙◌, arith, append_assoc, add-zero, zero-add, zero-mul}
 use Rattle.std.specs.List.{range_with_len}
 use Rattle.std.proofs.Math.Nat.{add-mul}
-use Rattle.std.proofs.lemmas.List.{take_all, drop_all, drop_at, drop-drop, length-take-le, append-nil}
-use Rattle.std.proofs.lemmas.Slice.{take-put_mid, take-put_mid_below}
+use Rattle.std.proofs.lemmas.List.{take_all, append-nil}
+use Rattle.std.proofs.lemmas.Slice.{take-put_mid}
 use borrow.Rule.Slice.PartMut.{put_mid}
 
 -- one number more
@@ -17,39 +17,37 @@ flat_map-more f a (suc n) =
     ∙ sym (append_assoc (f a) (flat_map f (range_with_len (a + 1) n)) (f (a + 1 + n)))
     ∙ ap (λ k. (f a ++ flat_map f (range_with_len (a + 1) n)) ++ f k) last
 
--- the first n pieces of `size` bytes are those of f
-abbrev pub HasFront : (ℕ → List ℕ) → ℕ → ℕ → List ℕ → Type 0
-HasFront f size n bytes = take (n * size) bytes ≡ flat_map f (range_with_len 0 n)
+-- numbers one after another, and those behind them
+pub flat_map-split : (f : ℕ → List ℕ) (a k n : ℕ)
+    → flat_map f (range_with_len a (k + n)) ≡ flat_map f (range_with_len a k) ++ flat_map f (range_with_len (a + k) n)
+flat_map-split f a zero n = ap (λ k. flat_map f (range_with_len a k)) (zero-add n) ∙ ap (λ b. flat_map f (range_with_len b n)) (sym (add-zero a))
+flat_map-split f a (suc k) n =
+    let count : suc k + n ≡ suc (k + n) = omega arith in
+    let last : a + 1 + k ≡ a + suc k = omega arith in
+    ap (λ i. flat_map f (range_with_len a i)) count
+    ∙ ap (λ xs. f a ++ xs) (flat_map-split f (a + 1) k n)
+    ∙ sym (append_assoc (f a) (flat_map f (range_with_len (a + 1) k)) (flat_map f (range_with_len (a + 1 + k) n)))
+    ∙ ap (λ b. (f a ++ flat_map f (range_with_len (a + 1) k)) ++ flat_map f (range_with_len b n)) last
 
-module _ (f : ℕ → List ℕ) (size : ℕ) where
-  -- a piece more is written
-  pub front-more : (n k : ℕ) (bytes piece : List ℕ) → HasFront f size n bytes → n * size ≤ length bytes → length piece ≡ size → piece ≡ f n
-      → HasFront f size (n + 1) (put_mid (n * size) k bytes piece)
-  front-more n k bytes piece before room long is =
-      let end : (n + 1) * size ≡ n * size + length piece = omega (arith, add-mul n 1 size) in
-      take-put_mid (n * size) k bytes piece ((n + 1) * size) end room
-      ∙ ap₂ (λ xs ys. xs ++ ys) before (is ∙ ap f (sym (omega arith)))
-      ∙ sym (flat_map-more f 0 n)
+module _ (f : ℕ → List ℕ) (size a : ℕ) where
+  -- the first n pieces of `size` bytes are those of f from a on
+  abbrev pub HasFront : ℕ → List ℕ → Type 0
+  HasFront n bytes = take (n * size) bytes ≡ flat_map f (range_with_len a n)
 
-  -- the same, of what a loop writes: `at` is how n is written
-  pub front-write : (n at k : ℕ) (bytes piece : List ℕ) → HasFront f size n bytes → at ≡ n → n * size ≤ length bytes → length piece ≡ size → piece ≡ f n
-      → HasFront f size (n + 1) (put_mid (at * size) k bytes piece)
+  -- no piece is made
+  pub front-none : (n : ℕ) (bytes : List ℕ) → n ≡ 0 → HasFront n bytes
+  front-none n bytes e = subst (λ k. HasFront k bytes) (sym e) (ap (λ k. take k bytes) (zero-mul size))
+
+  -- a piece more is written: `at` is how n is written
+  pub front-write : (n at k : ℕ) (bytes piece : List ℕ) → HasFront n bytes → at ≡ n → n * size ≤ length bytes → length piece ≡ size → piece ≡ f (a + n)
+      → HasFront (n + 1) (put_mid (at * size) k bytes piece)
   front-write n at k bytes piece before e room long is =
-      subst (λ a. HasFront f size (n + 1) (put_mid (a * size) k bytes piece)) (sym e) (front-more n k bytes piece before room long is)
+      let end : (n + 1) * size ≡ n * size + length piece = omega (arith, add-mul n 1 size) in
+      subst (λ b. HasFront (n + 1) (put_mid (b * size) k bytes piece)) (sym e)
+      (take-put_mid (n * size) k bytes piece ((n + 1) * size) end room
+      ∙ ap₂ (λ xs ys. xs ++ ys) before is
+      ∙ sym (flat_map-more f a n))
 
   -- all pieces are written
-  pub front-all : (n : ℕ) (bytes : List ℕ) → HasFront f size n bytes → length bytes ≡ n * size → bytes ≡ flat_map f (range_with_len 0 n)
+  pub front-all : (n : ℕ) (bytes : List ℕ) → HasFront n bytes → length bytes ≡ n * size → bytes ≡ flat_map f (range_with_len a n)
   front-all n bytes before long = sym (take_all (n * size) bytes (omega arith)) ∙ before
-
--- a front is kept where what stands behind it is written
-pub length-front : (size k : ℕ) (bytes back : List ℕ) → size ≤ length bytes → length (take size (put_mid size k bytes back)) ≡ size
-length-front size k bytes back room = ap length (take-put_mid_below size k bytes back size (omega arith) room) ∙ length-take-le size bytes room
-
--- what stands behind a front is written, and then the front
-pub both-written : (size k : ℕ) (bytes front back : List ℕ) → size ≤ length bytes → size + k ≡ length bytes
-    → put_mid 0 size (put_mid size k bytes back) front ≡ front ++ back
-both-written size k bytes front back room whole =
-    let behind : drop k (drop size bytes) ≡ [] = drop-drop k size bytes ∙ drop_all (size + k) bytes (omega arith) in
-    ap (λ xs. front ++ xs)
-    (drop_at (take size bytes) (back ++ drop k (drop size bytes)) size (length-take-le size bytes room)
-    ∙ ap (λ xs. back ++ xs) behind ∙ append-nil back)
