@@ -1,0 +1,3 @@
+pub mod AtLaws
+pub mod PlanChoice
+pub mod ChosenLaws

@@ -1,0 +1,16 @@
+//! The choice of a plan: the problems and the plans of all rotations in use, each plan with the line that says how it was
+//! found; and the plan that is handed in.
+#![tactic(auto)]
+
+mod choosing;
+mod chosen;
+mod errors;
+mod handed;
+pub mod laws;
+mod problems;
+
+pub use choosing::{chosen_plan, plans_of};
+pub use chosen::{Choosing, ChosenPlan, ChosenPlans};
+pub use errors::{ProblemsError, UndeterminedAt};
+pub use handed::{handed_plan, sound_plan};
+pub use problems::problems_of;
