@@ -1,0 +1,4 @@
+pub mod Stripes
+pub mod Scans
+pub mod Scrubs
+pub mod Laws
