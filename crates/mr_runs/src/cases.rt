@@ -6,6 +6,7 @@ use crate::outside::{SOUND, Schedule};
 use crate::trials::{Trial, check_trial};
 use mr_fixture::RDP_3;
 use std::alloc::Global;
+use std::thread::Threads;
 
 /// What a run is given, and what it is to answer and to leave.
 #[derive(Clone, Copy)]
@@ -54,14 +55,14 @@ pub const ON_RDP_3: Case = Case {
 };
 
 /// Runs a case: `Err` where it answers or leaves something else than it is to.
-pub fn check_case(alloc: Global, case: &Case) -> Result<(), Miss> {
-    check_trial(alloc, Trial::of(alloc, case)?)
+pub fn check_case<T: Threads + Sync>(rt: &T, alloc: Global, case: &Case) -> Result<(), Miss> {
+    check_trial(rt, alloc, Trial::of(alloc, case)?)
 }
 
 /// Runs each case, up to the first that misses.
-pub fn check_cases(alloc: Global, cases: &[Case]) -> Result<(), Miss> {
+pub fn check_cases<T: Threads + Sync>(rt: &T, alloc: Global, cases: &[Case]) -> Result<(), Miss> {
     for case in cases {
-        check_case(alloc, case)?;
+        check_case(rt, alloc, case)?;
     }
     Ok(())
 }

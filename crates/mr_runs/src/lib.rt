@@ -7,6 +7,7 @@
 mod bytes;
 mod cases;
 mod failing;
+mod given;
 mod images;
 mod misses;
 mod outside;
@@ -16,6 +17,7 @@ mod trials;
 pub use bytes::{Bytes, image_of};
 pub use cases::{BARE, Case, ON_RDP_3, check_case, check_cases};
 pub use failing::{Cut, Unread, check_same, check_unread, check_unreported, check_unwritten};
+pub use given::Given;
 pub use images::{HEAD, LEAST, LOST, REBUILD, WHOLE, varied_byte, varied_data, varied_image};
 pub use misses::{Miss, Part};
 pub use outside::{AT_ONCE, Gives, Puts, ROOMY, SOUND, Schedule};

@@ -1,11 +1,13 @@
 //! A run of the top call, and what it answered and left.
 
-use crate::outside::{Schedule, sink_of, source_of};
+use crate::given::Given;
+use crate::outside::{sink_of, source_of};
 use mr_bits::NoMemory;
-use mr_io::{Duty, MemFiles, MemSource, Source, Text};
+use mr_io::{Duty, Gate, MemFiles, MemSource, Source};
 use mr_kern::{XorKernel, block_plain};
 use mr_top::run;
 use std::alloc::Global;
+use std::thread::Threads;
 
 /// What a run answered and left.
 #[derive(Debug, Drop)]
@@ -24,26 +26,33 @@ pub struct Ran {
     pub left: usize,
 }
 
-/// Runs the words over these files and this script, with these failures.
-pub fn run_by(
+/// Runs the words over what is given, past this gate.
+pub fn run_by<T: Threads + Sync, G: Gate + Sync>(
+    rt: &T,
     alloc: Global,
     words: &[String],
-    files: Vec<(Text, Vec<u8>)>,
-    script: Vec<u8>,
-    schedule: Schedule,
+    given: Given,
+    gate: &G,
 ) -> Result<Ran, NoMemory> {
+    let Given {
+        files,
+        script,
+        schedule,
+    } = given;
     let mut files = MemFiles::new(alloc, files, Vec::from_slice(alloc, schedule.eyes)?)?;
     let mut script = source_of(alloc, script, schedule.script)?;
     let mut out = sink_of(alloc, schedule.out)?;
     let mut report = sink_of(alloc, schedule.report)?;
     let kernel = XorKernel::new(block_plain);
     let status = run(
+        rt,
         alloc,
         words,
         &mut files,
         &mut script,
         &mut out,
         &mut report,
+        gate,
         &kernel,
     );
     Ok(Ran {

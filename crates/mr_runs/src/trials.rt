@@ -1,13 +1,15 @@
 //! Trials: cases whose parts may be made while a test runs.
 
 use crate::cases::{BARE, Case, ON_RDP_3};
+use crate::given::Given;
 use crate::images::REBUILD;
 use crate::misses::{Miss, Part};
 use crate::outside::{Gives, Schedule};
 use crate::runs::run_by;
 use mr_bits::NoMemory;
-use mr_io::Text;
+use mr_io::{OpenGate, Text};
 use std::alloc::Global;
+use std::thread::Threads;
 
 /// A case whose parts may be made while a test runs.
 #[derive(Drop)]
@@ -169,9 +171,14 @@ pub fn words_in(alloc: Global, line: &str) -> Result<Vec<String>, NoMemory> {
 }
 
 /// Runs a trial: `Err` where it answers or leaves something else than it is to.
-pub fn check_trial(alloc: Global, trial: Trial) -> Result<(), Miss> {
+pub fn check_trial<T: Threads + Sync>(rt: &T, alloc: Global, trial: Trial) -> Result<(), Miss> {
     let words = trial.words;
-    let ran = run_by(alloc, &words, trial.files, trial.script, trial.schedule)?;
+    let given = Given {
+        files: trial.files,
+        script: trial.script,
+        schedule: trial.schedule,
+    };
+    let ran = run_by(rt, alloc, &words, given, &OpenGate)?;
     let part = if ran.status != trial.status {
         Part::Status
     } else if ran.out != trial.out {

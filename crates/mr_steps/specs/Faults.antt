@@ -9,7 +9,7 @@ use Rattle.mr_form.specs.declared.faults.MatrixFault.TheVariants.{Bad, Large as 
 use Rattle.mr_image.specs.declared.faults.HeadFault.{HeadFault}
 use Rattle.mr_image.specs.declared.faults.HeadFault.TheVariants.{Bad as IsBadHead, Large as IsLargeImage}
 use Rattle.mr_image.specs.declared.faults.ImageKind.{ImageKind}
-use Rattle.mr_image.specs.declared.faults.ImageKind.TheVariants.{Bytes as OfBytes, Head as OfHead, Length as OfLength, Shape as OfShape}
+use Rattle.mr_image.specs.declared.faults.ImageKind.TheVariants.{Bytes as OfBytes, Head as OfHead, Length as OfLength, Planned as OfPlanned, Shape as OfShape, Version as OfVersion}
 use Rattle.mr_io.specs.declared.errors.FilesError.{FilesError}
 use Rattle.mr_io.specs.declared.errors.FilesError.TheVariants.{Failed as IsFailed, Memory as IsMemory}
 use Rattle.mr_plan.specs.declared.errors.Why.{Why}
@@ -17,7 +17,7 @@ use Rattle.mr_plan.specs.declared.errors.Why.TheVariants.{Missing as IsMissing, 
 use Rattle.mr_words.specs.declared.errors.WordsError.{WordsError}
 use Rattle.mr_words.specs.declared.errors.WordsError.TheVariants.{Memory as WantsMemory, Usage as IsUsage}
 use Rattle.mr_steps.specs.declared.fault.Fault.{Fault}
-use Rattle.mr_steps.specs.declared.fault.Fault.TheVariants.{BadImage, BadMatrix, BadPlan, BadPlanLine, BadScript, Memory, NoDevice, ReadFault, TooLarge, Undetermined, Usage, WriteFault}
+use Rattle.mr_steps.specs.declared.fault.Fault.TheVariants.{BadImage, BadMatrix, BadPlan, BadPlanLine, BadScript, Memory, NoDevice, ReadFault, TooLarge, Undetermined, UndeterminedAt, Usage, WriteFault}
 
 abbrev pub fault_status : Fault → ℕ
 fault_status Usage = 1
@@ -27,6 +27,7 @@ fault_status (NoDevice device) = 4
 fault_status (BadImage kind) = 5
 fault_status (BadScript line) = 6
 fault_status (Undetermined symbol) = 7
+fault_status (UndeterminedAt rotation symbol) = 7
 fault_status (BadPlanLine line) = 8
 fault_status (BadPlan symbol why) = 8
 fault_status ReadFault = 9
@@ -46,6 +47,8 @@ image_name OfHead = codes "head"
 image_name OfShape = codes "shape"
 image_name OfBytes = codes "bytes"
 image_name OfLength = codes "length"
+image_name OfPlanned = codes "planned"
+image_name OfVersion = codes "version"
 
 abbrev pub why_name : Why → List ℕ
 why_name NotSurvivor = codes "notsurvivor"
@@ -85,6 +88,9 @@ fault_line (BadScript line) =
     joined (codes "status 6 script line " ∷ decimal line ∷ codes "\n" ∷ [])
 fault_line (Undetermined symbol) =
     joined (codes "status 7 undetermined symbol " ∷ decimal symbol ∷ codes "\n" ∷ [])
+fault_line (UndeterminedAt rotation symbol) =
+    joined (codes "status 7 undetermined rotation " ∷ decimal rotation ∷ codes " symbol "
+    ∷ decimal symbol ∷ codes "\n" ∷ [])
 fault_line (BadPlanLine line) =
     joined (codes "status 8 plan line " ∷ decimal line ∷ codes "\n" ∷ [])
 fault_line (BadPlan symbol why) =

@@ -2,13 +2,15 @@
 use Rattle.std.specs.List.{list_any}
 use Rattle.std.specs.Prelude.{Err, List, None, Ok, Option, Result, Some, [], bytes_eq, codes, drop, if◌then◌else◌, option_map, true, ℕ, ⊤, ◌==◌, ◌∷◌, ◌≡◌}
 use Rattle.mr_words.specs.Check.{check_of}
+use Rattle.mr_words.specs.Convert.{convert_of}
 use Rattle.mr_words.specs.Encode.{encode_of}
 use Rattle.mr_words.specs.Make.{make_of}
 use Rattle.mr_words.specs.Plan.{plan_of}
 use Rattle.mr_words.specs.Rebuild.{rebuild_of}
-use Rattle.mr_words.specs.Texts.{primes_of}
+use Rattle.mr_words.specs.Texts.{IsWorkers, primes_of}
 use Rattle.mr_words.specs.declared.check_words.CheckWords.{CheckWords}
 use Rattle.mr_words.specs.declared.code.Code.{Code}
+use Rattle.mr_words.specs.declared.convert_words.ConvertWords.{ConvertWords}
 use Rattle.mr_words.specs.declared.encode_words.EncodeWords.{EncodeWords}
 use Rattle.mr_words.specs.declared.make_words.MakeWords.{MakeWords}
 use Rattle.mr_words.specs.declared.plan_words.PlanWords.{PlanWords}
@@ -16,7 +18,7 @@ use Rattle.mr_words.specs.declared.rebuild_words.RebuildWords.{RebuildWords}
 use Rattle.mr_steps.specs.declared.fault.Fault.{Fault}
 use Rattle.mr_steps.specs.declared.fault.Fault.TheVariants.{Usage}
 use Rattle.mr_steps.specs.declared.request.Request.{Request}
-use Rattle.mr_steps.specs.declared.request.Request.TheVariants.{Check, Encode, Make, Plan, Rebuild}
+use Rattle.mr_steps.specs.declared.request.Request.TheVariants.{Check, Convert, Encode, Make, Plan, Rebuild}
 
 -- the request that the words of each command make
 abbrev pub plan_request : PlanWords → Request
@@ -35,6 +37,9 @@ abbrev pub rebuild_request : RebuildWords → Request
 rebuild_request words =
     Rebuild words.matrix words.image words.lost words.workers words.budget words.plan
 
+abbrev pub convert_request : ConvertWords → Request
+convert_request words = Convert words.matrix words.image
+
 -- the request of words, of which the first is the command and is not looked at
 abbrev pub plan_request_of : List (List ℕ) → Option Request
 plan_request_of words = option_map plan_request (plan_of (drop 1 words))
@@ -51,6 +56,9 @@ encode_request_of words = option_map encode_request (encode_of (drop 1 words))
 abbrev pub rebuild_request_of : List (List ℕ) → Option Request
 rebuild_request_of words = option_map rebuild_request (rebuild_of (drop 1 words))
 
+abbrev pub convert_request_of : List (List ℕ) → Option Request
+convert_request_of words = option_map convert_request (convert_of (drop 1 words))
+
 abbrev pub command_request : List ℕ → List (List ℕ) → Option Request
 command_request command words =
     if bytes_eq command (codes "plan") then plan_request_of words
@@ -58,6 +66,7 @@ command_request command words =
     else if bytes_eq command (codes "make") then make_request_of words
     else if bytes_eq command (codes "encode") then encode_request_of words
     else if bytes_eq command (codes "rebuild") then rebuild_request_of words
+    else if bytes_eq command (codes "convert") then convert_request_of words
     else None
 
 -- the request of the words after the program's name, if they are in the grammar
@@ -69,13 +78,15 @@ request_of (command ∷ rest) = command_request command (command ∷ rest)
 abbrev pub IsMade : Code → ℕ → Type 0
 IsMade code p = list_any (λ prime. prime == p) (primes_of code) ≡ true
 
--- a request that can be answered: a matrix to be made is one that its code is made for
+-- a request that can be answered: there are workers, and a matrix to be made is one that its code
+-- is made for
 abbrev pub IsRequest : Request → Type 0
-IsRequest (Plan matrix lost workers budget) = ⊤
+IsRequest (Plan matrix lost workers budget) = IsWorkers workers
 IsRequest (Check matrix lost plan) = ⊤
 IsRequest (Make code p) = IsMade code p
 IsRequest (Encode matrix payload stripes bytes) = ⊤
-IsRequest (Rebuild matrix image lost workers budget plan) = ⊤
+IsRequest (Rebuild matrix image lost workers budget plan) = IsWorkers workers
+IsRequest (Convert matrix image) = ⊤
 
 -- the words of a rebuild
 abbrev pub rebuild_words : List ℕ → List ℕ → List ℕ → ℕ → ℕ → Option (List ℕ) → RebuildWords

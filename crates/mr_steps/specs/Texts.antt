@@ -1,6 +1,5 @@
 -- The texts of a command: bytes within a limit, and the matrix that they spell.
-use Rattle.std.specs.Prelude.{Err, List, Ok, Result, if◌then◌else◌, length, nat_le, ℕ, ◌≡◌}
-use Rattle.mr_bits.specs.Matrices.{IsMatrixCode}
+use Rattle.std.specs.Prelude.{Err, List, Ok, Result, if◌then◌else◌, length, nat_le, ℕ}
 use Rattle.mr_bits.specs.declared.errors.What.{What}
 use Rattle.mr_bits.specs.declared.errors.What.TheVariants.{MatrixBytes}
 use Rattle.mr_form.specs.MatrixText.{matrix_of}
@@ -30,7 +29,3 @@ abbrev pub matrix_given : List ℕ → Result Code Fault
 matrix_given bytes = do
   text ← within_limit MatrixBytes bytes
   or_matrix_fault (matrix_of text)
-
--- where a file spells a matrix, that is within its limits
-abbrev pub IsCodeAt : (List ℕ → List ℕ) → List ℕ → Type 0
-IsCodeAt contents name = (m : Code) → matrix_given (contents name) ≡ Ok m → IsMatrixCode m

@@ -33,6 +33,9 @@ pub enum Fault {
     BadScript { line: u32 },
     /// The survivors do not determine the lost symbols: the least symbol that they do not.
     Undetermined { symbol: u8 },
+    /// The survivors do not determine the lost symbols in a rotation of the matrix: the least such
+    /// rotation, and the least symbol that they do not in it.
+    UndeterminedAt { rotation: u32, symbol: u8 },
     /// The bytes of the plan file are no plan text: the first bad line, from 1.
     BadPlanLine { line: u32 },
     /// The plan is not valid for the matrix and the lost symbols: its first fault, and the symbol
@@ -58,7 +61,7 @@ impl Fault {
             Fault::NoDevice { .. } => 4,
             Fault::BadImage { .. } => 5,
             Fault::BadScript { .. } => 6,
-            Fault::Undetermined { .. } => 7,
+            Fault::Undetermined { .. } | Fault::UndeterminedAt { .. } => 7,
             Fault::BadPlanLine { .. } | Fault::BadPlan { .. } => 8,
             Fault::ReadFault => 9,
             Fault::WriteFault => 10,
@@ -79,6 +82,9 @@ impl Fault {
             Fault::BadImage { kind } => print_image_fault(*kind, out),
             Fault::BadScript { line } => print_script_line(*line, out),
             Fault::Undetermined { symbol } => print_symbol(*symbol, out),
+            Fault::UndeterminedAt { rotation, symbol } => {
+                print_rotation(*rotation, *symbol, out)
+            }
             Fault::BadPlanLine { line } => print_plan_line(*line, out),
             Fault::BadPlan { symbol, why } => print_plan_fault(*symbol, *why, out),
             Fault::ReadFault => put_all(out, b"status 9 read\n"),
@@ -176,6 +182,26 @@ fn print_symbol<K: Sink>(symbol: u8, out: &mut K) -> Result<(), Failed>
     )
 }
 
+fn print_rotation<K: Sink>(rotation: u32, symbol: u8, out: &mut K) -> Result<(), Failed>
+    ensures puts { Puts (K.held out.old) (K.held out.new) result
+        (fault_line (Fault.UndeterminedAt rotation symbol)) }
+    ensures cause { HasCause (K.faults out.old) (K.faults out.new) result }
+{
+    let (mut first, mut second) = (Buffer::new(), Buffer::new());
+    let rotation = first.format(rotation).as_bytes();
+    let symbol = second.format(symbol).as_bytes();
+    put_pieces(
+        out,
+        &[
+            b"status 7 undetermined rotation ",
+            rotation,
+            b" symbol ",
+            symbol,
+            b"\n",
+        ],
+    )
+}
+
 fn print_plan_line<K: Sink>(line: u32, out: &mut K) -> Result<(), Failed>
     ensures puts { Puts (K.held out.old) (K.held out.new) result
         (fault_line (Fault.BadPlanLine line)) }
@@ -244,6 +270,8 @@ fn image_text(kind: ImageKind) -> &'static [u8]
         ImageKind::Shape => b"shape",
         ImageKind::Bytes => b"bytes",
         ImageKind::Length => b"length",
+        ImageKind::Planned => b"planned",
+        ImageKind::Version => b"version",
     }
 }
 

@@ -1,7 +1,7 @@
 //! What the words of the command line ask for.
 
 use mr_io::Text;
-use mr_words::{CheckWords, Code, EncodeWords, MakeWords, PlanWords, RebuildWords};
+use mr_words::{CheckWords, Code, ConvertWords, EncodeWords, MakeWords, PlanWords, RebuildWords};
 
 /// What the words of the command line ask for.
 #[derive(Debug, Drop)]
@@ -42,6 +42,11 @@ pub enum Request {
         workers: u32,
         budget: u32,
         plan: Option<Text>,
+    },
+    /// The image of version 2 that is made of an image file, for a matrix file.
+    Convert {
+        matrix: Text,
+        image: Text,
     },
 }
 
@@ -120,6 +125,20 @@ impl From<RebuildWords> for Request {
             workers: words.workers,
             budget: words.budget,
             plan: words.plan,
+        }
+    }
+}
+
+impl From<ConvertWords> for Request {
+    ghost use Rattle.std.specs.Prelude.{◌≡◌};
+    ghost use Rattle.mr_steps.specs.Requests.{convert_request};
+
+    ghost from_gives = { λ words request. request ≡ convert_request words };
+
+    fn from(words: ConvertWords) -> Request {
+        Request::Convert {
+            matrix: words.matrix,
+            image: words.image,
         }
     }
 }

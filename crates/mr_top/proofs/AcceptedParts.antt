@@ -1,29 +1,30 @@
 -- What `rebuild` accepts, from each step on.
 use Rattle.std.proofs.Common.{ℕ, List, Option, Result, Ok, option_map}
+use Rattle.mr_choices.specs.Handed.{plan_file_given}
 use Rattle.mr_image.specs.Images.{Layout}
 use Rattle.mr_model.specs.Code.{Code}
 use Rattle.mr_steps.specs.Losses.{targets_given}
 use Rattle.mr_steps.specs.Refusals.{followed_by}
 use Rattle.mr_steps.specs.declared.fault.Fault.{Fault}
-use Rattle.mr_top.specs.Rebuild.{RebuildAccepted, asks_given, head_given, plan_file_given, rebuild_of_parts}
-use Rattle.mr_top.specs.RebuildSteps.{read_as}
-use Rattle.mr_top.specs.declared.chosen.ChosenPlan.{ChosenPlan}
-use Rattle.mr_top.specs.declared.image_read.ImageRead.{ImageRead}
+use Rattle.mr_top.specs.Rebuild.{RebuildAccepted, asks_given, image_given, rebuild_of_parts}
+use Rattle.mr_top.specs.RebuildSteps.{ImageParts, parts_as}
+use Rattle.mr_choices.specs.declared.chosen.ChosenPlan.{ChosenPlan}
 use Rattle.mr_words.specs.declared.rebuild_words.RebuildWords.{RebuildWords}
 
 -- ---- what a rebuild reads before the script
 
 abbrev pub image_of_plan : (List ℕ → List ℕ) → RebuildWords → Code → ℕ → Option ChosenPlan
-    → Result ImageRead Fault
+    → Result ImageParts Fault
 image_of_plan contents words m targets handed =
-    followed_by (head_given m (contents words.image)) (λ l. Ok (read_as m targets handed l))
+    followed_by (image_given m targets handed (contents words.image))
+    (λ l. Ok (parts_as m targets handed l))
 
-abbrev pub image_of_loss : (List ℕ → List ℕ) → RebuildWords → Code → ℕ → Result ImageRead Fault
+abbrev pub image_of_loss : (List ℕ → List ℕ) → RebuildWords → Code → ℕ → Result ImageParts Fault
 image_of_loss contents words m targets =
     followed_by (plan_file_given m targets (option_map contents words.plan))
     (image_of_plan contents words m targets)
 
-abbrev pub image_of_matrix : (List ℕ → List ℕ) → RebuildWords → Code → Result ImageRead Fault
+abbrev pub image_of_matrix : (List ℕ → List ℕ) → RebuildWords → Code → Result ImageParts Fault
 image_of_matrix contents words m =
     followed_by (targets_given m words.lost) (image_of_loss contents words m)
 
@@ -38,7 +39,7 @@ rebuild_of_head contents left words m targets handed l =
 abbrev pub rebuild_of_plan : (List ℕ → List ℕ) → List ℕ → RebuildWords → Code → ℕ
     → Option ChosenPlan → Result RebuildAccepted Fault
 rebuild_of_plan contents left words m targets handed =
-    followed_by (head_given m (contents words.image))
+    followed_by (image_given m targets handed (contents words.image))
     (rebuild_of_head contents left words m targets handed)
 
 abbrev pub rebuild_of_loss : (List ℕ → List ℕ) → List ℕ → RebuildWords → Code → ℕ

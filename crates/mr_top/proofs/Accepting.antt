@@ -2,6 +2,7 @@
 use Rattle.std.proofs.Common.{◌≡◌, ℕ, is_ok, List, Option, Some, None, Result, Ok, refl, sym, ◌∙◌, ap, option_map}
 use Rattle.mr_bits.specs.declared.errors.What.{What}
 use Rattle.mr_bits.specs.declared.errors.What.TheVariants.{MatrixBytes, PlanBytes}
+use Rattle.mr_choices.specs.Handed.{handed_file, handed_given, plan_file, plan_file_given}
 use Rattle.mr_form.specs.MatrixText.{matrix_of}
 use Rattle.mr_image.specs.Images.{Layout}
 use Rattle.mr_mend.specs.declared.asks.Ask.{Ask}
@@ -10,21 +11,20 @@ use Rattle.mr_words.specs.declared.rebuild_words.RebuildWords.{RebuildWords}
 use Rattle.mr_steps.specs.Texts.{matrix_given, or_matrix_fault, within_limit}
 use Rattle.mr_steps.proofs.Results.{nest, result-as, tells-ok, tells-value}
 use Rattle.mr_top.specs.Check.{check_accepted, check_written, cost_given}
-use Rattle.mr_top.specs.Encode.{encode_accepted, encode_written, encoded_given, layout_given}
+use Rattle.mr_top.specs.Encode.{encode_accepted, image_written, encoded_given, layout_given}
 use Rattle.mr_top.specs.Plan.{PlanAccepted, plan_accepted, plan_given, plan_output, plan_written, plan_of_parts}
-use Rattle.mr_top.specs.Rebuild.{RebuildAccepted, image_accepted, plan_file_given, rebuild_accepted, asks_given, handed_given, head_given, rebuild_of_parts}
+use Rattle.mr_top.specs.Rebuild.{RebuildAccepted, image_accepted, image_given, layout_allowed, rebuild_accepted, asks_given, head_given, rebuild_of_parts}
 use Rattle.mr_steps.specs.Sinks.{Output}
 use Rattle.mr_steps.specs.TextFiles.{matrix_file, text_file}
 use Rattle.mr_top.specs.CheckSteps.{check_answer}
 use Rattle.mr_top.specs.EncodeSteps.{encode_answer, encoded_file}
 use Rattle.mr_top.specs.PlanSteps.{plan_answer}
-use Rattle.mr_top.specs.RebuildSteps.{copied_image, handed_file, head_file, image_read, mended_image, plan_file, plan_for, read_as, rebuild_answer, rebuild_by, rebuilt_by, replied_image, mended_of}
+use Rattle.mr_top.specs.RebuildSteps.{ImageParts, copied_image, head_file, image_file, image_read, lines_for, mended_image, plans_for, parts_as, rebuild_answer, rebuild_by, rebuilt_by, replied_image, mended_of}
 use Rattle.mr_steps.specs.Losses.{targets_given}
 use Rattle.mr_steps.specs.Readings.{given}
 use Rattle.mr_steps.specs.Refusals.{followed_by}
-use Rattle.mr_top.specs.declared.chosen.ChosenPlan.{ChosenPlan}
+use Rattle.mr_choices.specs.declared.chosen.ChosenPlan.{ChosenPlan}
 use Rattle.mr_steps.specs.declared.fault.Fault.{Fault}
-use Rattle.mr_top.specs.declared.image_read.ImageRead.{ImageRead}
 use Rattle.mr_top.proofs.AcceptedParts.{image_of_loss, image_of_matrix, image_of_plan, rebuild_of_head, rebuild_of_loss, rebuild_of_matrix, rebuild_of_plan}
 use Rattle.mr_top.proofs.CheckSteps.{cost_next, lost_next, plan_next, valid_next}
 use Rattle.mr_top.proofs.EncodeSteps.{code_next, head_next, image_next}
@@ -53,6 +53,13 @@ handed-is contents (Some name) m targets =
 pub head-is : (contents : List ℕ → List ℕ) (image : List ℕ) (m : Code) → (head_file contents image m).result ≡ head_given m (contents image)
 unfolding head_file
 head-is contents image m = refl
+
+pub image_file-is : (contents : List ℕ → List ℕ) (image : List ℕ) (m : Code) (targets : ℕ) (handed : Option ChosenPlan)
+    → (image_file contents image m targets handed).result ≡ image_given m targets handed (contents image)
+unfolding image_file
+image_file-is contents image m targets handed =
+    result-as (head_file contents image m) (λ l. given (layout_allowed m targets handed l))
+    (head_given m (contents image)) (layout_allowed m targets handed) (head-is contents image m) (λ _. refl)
 
 -- ---- commands
 
@@ -116,7 +123,7 @@ module _ (contents : List ℕ → List ℕ) (matrix payload : List ℕ) (stripes
   image_of_code m = followed_by (layout_given m bytes stripes) (λ l. encoded_given m l (contents payload))
 
   pub encode-is : (encode_answer contents matrix payload stripes bytes).result
-      ≡ followed_by (encode_accepted contents matrix payload stripes bytes) (λ image. Ok (encode_written image))
+      ≡ followed_by (encode_accepted contents matrix payload stripes bytes) (λ image. Ok (image_written image))
   unfolding encode_answer
   encode-is =
       result-as (matrix_file contents matrix) (code_next contents payload stripes bytes) (matrix_given (contents matrix)) encode_by_code (matrix-is contents matrix) (λ m.
@@ -127,7 +134,7 @@ module _ (contents : List ℕ → List ℕ) (matrix payload : List ℕ) (stripes
 
 -- what a rebuild writes of what it read
 abbrev pub rebuild_written : RebuildAccepted → Output
-rebuild_written r = rebuilt_by r.chosen r.layout r.asks (mended_of r.layout r.chosen.plan.recipes r.asks r.bytes)
+rebuild_written r = rebuilt_by r.layout r.plans r.lines r.asks (mended_of r.layout r.plans r.asks r.bytes)
 
 module _ (contents : List ℕ → List ℕ) (left : List ℕ) (words : RebuildWords) where
   pub image-is : (image_read contents words).result ≡ followed_by (matrix_given (contents words.matrix)) (image_of_matrix contents words)
@@ -137,11 +144,11 @@ module _ (contents : List ℕ → List ℕ) (left : List ℕ) (words : RebuildWo
       result-as (given (targets_given m words.lost)) (loss_next contents words m) (targets_given m words.lost) (image_of_loss contents words m) refl (λ targets.
       result-as (handed_file contents words.plan m targets) (handed_next contents words m targets) (plan_file_given m targets (option_map contents words.plan)) (image_of_plan contents words m targets)
       (handed-is contents words.plan m targets) (λ handed.
-      result-as (head_file contents words.image m) (λ l. given (Ok (read_as m targets handed l))) (head_given m (contents words.image)) (λ l. Ok (read_as m targets handed l))
-      (head-is contents words.image m) (λ _. refl))))
+      result-as (image_file contents words.image m targets handed) (λ l. given (Ok (parts_as m targets handed l))) (image_given m targets handed (contents words.image)) (λ l. Ok (parts_as m targets handed l))
+      (image_file-is contents words.image m targets handed) (λ _. refl))))
 
   abbrev head_of_loss : Code → ℕ → Result Layout Fault
-  head_of_loss m targets = followed_by (plan_file_given m targets (option_map contents words.plan)) (λ _. head_given m (contents words.image))
+  head_of_loss m targets = followed_by (plan_file_given m targets (option_map contents words.plan)) (λ handed. image_given m targets handed (contents words.image))
 
   -- all before the script is accepted exactly where it is read
   pub image-tells : is_ok (image_read contents words).result ≡ is_ok (image_accepted contents words)
@@ -149,17 +156,17 @@ module _ (contents : List ℕ → List ℕ) (left : List ℕ) (words : RebuildWo
       ap is_ok image-is
       ∙ tells-ok (matrix_given (contents words.matrix)) (image_of_matrix contents words) (λ m. followed_by (targets_given m words.lost) (head_of_loss m)) (λ m.
       tells-ok (targets_given m words.lost) (image_of_loss contents words m) (head_of_loss m) (λ targets.
-      tells-ok (plan_file_given m targets (option_map contents words.plan)) (image_of_plan contents words m targets) (λ _. head_given m (contents words.image)) (λ handed.
-      tells-value (head_given m (contents words.image)) (λ l. read_as m targets handed l))))
+      tells-ok (plan_file_given m targets (option_map contents words.plan)) (image_of_plan contents words m targets) (λ handed. image_given m targets handed (contents words.image)) (λ handed.
+      tells-value (image_given m targets handed (contents words.image)) (λ l. parts_as m targets handed l))))
 
   -- what is written of what was read
-  abbrev written_of : ImageRead → List Ask → Output
-  written_of read asks = rebuilt_by (plan_for words read) read.head asks (mended_of read.head (plan_for words read).plan.recipes asks (contents words.image))
+  abbrev written_of : ImageParts → List Ask → Output
+  written_of read asks = rebuilt_by read.head (plans_for words read) (lines_for words read) asks (mended_of read.head (plans_for words read) asks (contents words.image))
 
-  abbrev by_read : ImageRead → Result Output Fault
+  abbrev by_read : ImageParts → Result Output Fault
   by_read read = followed_by (asks_given read.head left) (λ asks. Ok (written_of read asks))
 
-  by-asks : (read : ImageRead) (asks : List Ask) → (rebuild_by contents words read asks).result ≡ Ok (written_of read asks)
+  by-asks : (read : ImageParts) (asks : List Ask) → (rebuild_by contents words read asks).result ≡ Ok (written_of read asks)
   unfolding rebuild_by mended_image replied_image copied_image
   by-asks read asks = refl
 
@@ -171,10 +178,10 @@ module _ (contents : List ℕ → List ℕ) (left : List ℕ) (words : RebuildWo
 
   -- both, step by step
   abbrev by_head : Code → ℕ → Option ChosenPlan → Layout → Result Output Fault
-  by_head m targets handed l = by_read (read_as m targets handed l)
+  by_head m targets handed l = by_read (parts_as m targets handed l)
 
   abbrev by_handed : Code → ℕ → Option ChosenPlan → Result Output Fault
-  by_handed m targets handed = followed_by (head_given m (contents words.image)) (by_head m targets handed)
+  by_handed m targets handed = followed_by (image_given m targets handed (contents words.image)) (by_head m targets handed)
 
   abbrev by_loss : Code → ℕ → Result Output Fault
   by_loss m targets = followed_by (plan_file_given m targets (option_map contents words.plan)) (by_handed m targets)
@@ -187,7 +194,7 @@ module _ (contents : List ℕ → List ℕ) (left : List ℕ) (words : RebuildWo
       nest (matrix_given (contents words.matrix)) (image_of_matrix contents words) by_read by_code (λ m.
       nest (targets_given m words.lost) (image_of_loss contents words m) by_read (by_loss m) (λ targets.
       nest (plan_file_given m targets (option_map contents words.plan)) (image_of_plan contents words m targets) by_read (by_handed m targets) (λ handed.
-      nest (head_given m (contents words.image)) (λ l. Ok (read_as m targets handed l)) by_read (by_head m targets handed) (λ _. refl))))
+      nest (image_given m targets handed (contents words.image)) (λ l. Ok (parts_as m targets handed l)) by_read (by_head m targets handed) (λ _. refl))))
 
   abbrev all_written : RebuildAccepted → Result Output Fault
   all_written r = Ok (rebuild_written r)
@@ -197,8 +204,8 @@ module _ (contents : List ℕ → List ℕ) (left : List ℕ) (words : RebuildWo
       nest (matrix_given (contents words.matrix)) (rebuild_of_matrix contents left words) all_written by_code (λ m.
       nest (targets_given m words.lost) (rebuild_of_loss contents left words m) all_written (by_loss m) (λ targets.
       nest (plan_file_given m targets (option_map contents words.plan)) (rebuild_of_plan contents left words m targets) all_written (by_handed m targets) (λ handed.
-      nest (head_given m (contents words.image)) (rebuild_of_head contents left words m targets handed) all_written (by_head m targets handed) (λ l.
-      nest (asks_given l left) (λ asks. Ok (rebuild_of_parts contents words m targets handed l asks)) all_written (λ asks. Ok (written_of (read_as m targets handed l) asks)) (λ _. refl)))))
+      nest (image_given m targets handed (contents words.image)) (rebuild_of_head contents left words m targets handed) all_written (by_head m targets handed) (λ l.
+      nest (asks_given l left) (λ asks. Ok (rebuild_of_parts contents words m targets handed l asks)) all_written (λ asks. Ok (written_of (parts_as m targets handed l) asks)) (λ _. refl)))))
 
   pub rebuild-is : (rebuild_answer contents left words).result ≡ followed_by (rebuild_accepted contents left words) (λ r. Ok (rebuild_written r))
   rebuild-is = chain-is ∙ chain-steps ∙ sym accepted-steps

@@ -20,13 +20,13 @@ use Rattle.mr_top.specs.EncodeSteps.{encode_answer, encoded_file}
 use Rattle.mr_top.specs.Eyes.{command_eyes, image_eyes, mend_eyes, plan_eyes}
 use Rattle.mr_top.specs.Plan.{plan_given}
 use Rattle.mr_top.specs.PlanSteps.{plan_answer}
-use Rattle.mr_top.specs.RebuildSteps.{copied_image, handed_file, head_file, mended_image, plan_file, image_read, plan_for, read_as, rebuild_answer, rebuild_by, rebuilt_by, replied_image}
+use Rattle.mr_top.specs.RebuildSteps.{ImageParts, copied_image, head_file, image_file, mended_image, image_read, lines_for, plans_for, parts_as, rebuild_answer, rebuild_by, rebuilt_by, replied_image}
 use Rattle.mr_steps.specs.Readings.{Reading, given, and_then, ◌>>=◌}
 use Rattle.mr_steps.specs.Requests.{or_usage, rebuild_words, request_of}
 use Rattle.mr_steps.specs.Steps.{FollowsWith}
 use Rattle.mr_steps.specs.declared.fault.Fault.{Fault}
 use Rattle.mr_steps.specs.declared.request.Request.{Request}
-use Rattle.mr_steps.specs.declared.request.Request.TheVariants.{Plan, Check, Make, Encode, Rebuild}
+use Rattle.mr_steps.specs.declared.request.Request.TheVariants.{Check, Convert, Encode, Make, Plan, Rebuild}
 use Rattle.mr_top.specs.Check.{cost_given}
 use Rattle.mr_steps.specs.Losses.{targets_given}
 use Rattle.mr_steps.proofs.Chains.{eyes-given}
@@ -34,12 +34,16 @@ use Rattle.mr_image.specs.Images.{Layout}
 use Rattle.mr_model.specs.Code.{Code}
 use Rattle.mr_top.specs.Encode.{layout_given}
 use Rattle.mr_plan.specs.Plans.{PlanParts, survivors}
-use Rattle.mr_top.specs.Rebuild.{asks_given, handed_given}
+use Rattle.mr_top.specs.Rebuild.{asks_given, layout_allowed}
+use Rattle.mr_choices.specs.Handed.{handed_file, handed_given, plan_file}
+use Rattle.mr_choices.specs.declared.chosen.ChosenPlan.{ChosenPlan}
 use Rattle.mr_words.specs.declared.rebuild_words.RebuildWords.{RebuildWords}
-use Rattle.mr_top.specs.declared.image_read.ImageRead.{ImageRead}
 use Rattle.mr_top.proofs.ImageSteps.{asks_next, handed_next, loss_next, matrix_next}
 use Rattle.mr_top.proofs.EncodeSteps.{code_next, head_next, image_next}
 use Rattle.mr_top.proofs.CheckSteps.{cost_next, lost_next, plan_next, valid_next}
+use Rattle.mr_top.specs.WholeImages.{allowed_answer, body_answer, image_answer}
+use Rattle.mr_top.specs.Convert.{converted_output, first_version}
+use Rattle.mr_top.proofs.WholeImages.{body_next, layout_next, spelled_next}
 
 eyes-text_file : (contents : List ℕ → List ℕ) (name : List ℕ) → (text_file contents name MatrixBytes).eyes ≡ record { name = name; duty = Text } ∷ []
 unfolding text_file
@@ -120,18 +124,24 @@ pub eyes-head_file : (contents : List ℕ → List ℕ) (image : List ℕ) (m : 
 unfolding head_file
 eyes-head_file contents image m = refl
 
-eyes-mended_image : (contents : List ℕ → List ℕ) (image : List ℕ) (set : ℕ) (l : Layout) (plan : PlanParts) (asks : List Ask)
-    → (mended_image contents image set l plan asks).eyes ≡ mend_eyes image
-unfolding mended_image replied_image copied_image
-eyes-mended_image contents image set l plan asks = refl
+pub eyes-image_file : (contents : List ℕ → List ℕ) (image : List ℕ) (m : Code) (targets : ℕ) (handed : Option ChosenPlan)
+    → (image_file contents image m targets handed).eyes ≡ record { name = image; duty = Head } ∷ []
+unfolding image_file
+eyes-image_file contents image m targets handed =
+    eyes-given (head_file contents image m) (layout_allowed m targets handed) ∙ eyes-head_file contents image m
 
-pub eyes-rebuild_by : (contents : List ℕ → List ℕ) (words : RebuildWords) (read : ImageRead) (asks : List Ask)
+eyes-mended_image : (contents : List ℕ → List ℕ) (image : List ℕ) (set : ℕ) (l : Layout) (plans : List PlanParts) (asks : List Ask)
+    → (mended_image contents image set l plans asks).eyes ≡ mend_eyes image
+unfolding mended_image replied_image copied_image
+eyes-mended_image contents image set l plans asks = refl
+
+pub eyes-rebuild_by : (contents : List ℕ → List ℕ) (words : RebuildWords) (read : ImageParts) (asks : List Ask)
     → (rebuild_by contents words read asks).eyes ≡ mend_eyes words.image
 unfolding rebuild_by
 eyes-rebuild_by contents words read asks =
-    eyes-given (mended_image contents words.image (survivors read.matrix read.problem.targets) read.head (plan_for words read).plan asks)
-    (λ mended. Ok (rebuilt_by (plan_for words read) read.head asks mended))
-    ∙ eyes-mended_image contents words.image (survivors read.matrix read.problem.targets) read.head (plan_for words read).plan asks
+    eyes-given (mended_image contents words.image (survivors read.matrix read.lost) read.head (plans_for words read) asks)
+    (λ mended. Ok (rebuilt_by read.head (plans_for words read) (lines_for words read) asks mended))
+    ∙ eyes-mended_image contents words.image (survivors read.matrix read.lost) read.head (plans_for words read) asks
 
 -- A chain asks for a front of these eyes, and for all of them where it gives a value.
 record Fronts {X : Type 0} (reading : Reading X) (all : List Asked) : Type 0 where
@@ -176,7 +186,7 @@ fronts-image_read contents words =
     fronts-then (given (targets_given m words.lost)) (loss_next contents words m) [] (plan_eyes words.plan ++ head_eyes words.image) (fronts-same _ _ refl) (λ targets.
     fronts-then (handed_file contents words.plan m targets) (handed_next contents words m targets) (plan_eyes words.plan) (head_eyes words.image)
     (fronts-same _ _ (eyes-handed_file contents words.plan m targets)) (λ handed.
-    fronts-same _ _ (eyes-given (head_file contents words.image m) (λ l. Ok (read_as m targets handed l)) ∙ eyes-head_file contents words.image m))))
+    fronts-same _ _ (eyes-given (image_file contents words.image m targets handed) (λ l. Ok (parts_as m targets handed l)) ∙ eyes-image_file contents words.image m targets handed))))
 
 -- all eyes of a rebuild
 front-rebuild_answer : (contents : List ℕ → List ℕ) (left : List ℕ) (words : RebuildWords)
@@ -191,6 +201,32 @@ front-rebuild_answer contents left words =
     fronts-then (given (asks_given read.head left)) (rebuild_by contents words read) [] (mend_eyes words.image) (fronts-same _ _ refl) (λ asks.
     fronts-same _ _ (eyes-rebuild_by contents words read asks)))).front
 
+-- ---- commands that read an image file whole
+
+module _ (allowed : Layout → Result Layout Fault) (written : Code → Layout → List ℕ → Output) (contents : List ℕ → List ℕ) (matrix image : List ℕ) where
+  abbrev copy : List Asked
+  copy = record { name = image; duty = Copy } ∷ []
+
+  pub eyes-body : (m : Code) (taken : Layout) → (body_next written contents image m taken).eyes ≡ copy
+  unfolding body_answer
+  eyes-body m taken = refl
+
+  front-layout : (m : Code) (l : Layout) → IsFront (layout_next allowed written contents image m l).eyes copy
+  unfolding allowed_answer
+  front-layout m l = front_after (given (allowed l)) (body_next written contents image m) copy (λ taken. front_same _ copy (eyes-body m taken))
+
+  front-spelled : (m : Code) → IsFront (spelled_next allowed written contents image m).eyes (record { name = image; duty = Head } ∷ copy)
+  front-spelled m =
+      subst (λ eyes. IsFront (spelled_next allowed written contents image m).eyes (eyes ++ copy)) (eyes-head_file contents image m)
+      (front_after (head_file contents image m) (layout_next allowed written contents image m) copy (front-layout m))
+
+  front-whole : IsFront (image_answer allowed written contents matrix image).eyes
+      (record { name = matrix; duty = Text } ∷ record { name = image; duty = Head } ∷ copy)
+  unfolding image_answer
+  front-whole =
+      subst (λ eyes. IsFront (image_answer allowed written contents matrix image).eyes (eyes ++ record { name = image; duty = Head } ∷ copy)) (eyes-matrix_file contents matrix)
+      (front_after (matrix_file contents matrix) (spelled_next allowed written contents image) (record { name = image; duty = Head } ∷ copy) front-spelled)
+
 -- the eyes of an answer are a front of its command's
 front-answer : (words : List (List ℕ)) (contents : List ℕ → List ℕ) (left : List ℕ) → IsFront (answer words contents left).eyes (command_eyes (request_of words))
 unfolding answer
@@ -203,6 +239,7 @@ front-answer words contents left = go (request_of words)
     go (Some (Rebuild matrix image lost workers budget plan)) =
         front-rebuild_answer contents left (rebuild_words matrix image lost workers budget plan)
     go (Some (Check matrix lost plan)) = front-check_answer contents matrix lost plan
+    go (Some (Convert matrix image)) = front-whole first_version (λ _. converted_output) contents matrix image
     go (Some (Plan matrix lost workers budget)) = front_same _ _ (eyes-plan_answer contents matrix lost budget)
 
 -- a front of a front

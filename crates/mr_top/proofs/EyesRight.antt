@@ -2,6 +2,7 @@
 use Rattle.std.proofs.Common.{◌≡◌, ℕ, List, [], ◌∷◌, ◌++◌, Option, Some, None, Result, Ok, Err, refl, sym, ◌∙◌, ap, option_map}
 use Rattle.std.proofs.lemmas.List.{append-nil}
 use Rattle.mr_bits.specs.declared.errors.What.TheVariants.{PlanBytes}
+use Rattle.mr_choices.specs.Handed.{handed_file, plan_file_given}
 use Rattle.mr_image.specs.Images.{Layout}
 use Rattle.mr_io.specs.declared.asked.Asked.{Asked}
 use Rattle.mr_io.specs.declared.duty.Duty.TheVariants.{Text, Head, Copy}
@@ -10,31 +11,34 @@ use Rattle.mr_model.specs.Code.{Code}
 use Rattle.mr_words.specs.declared.rebuild_words.RebuildWords.{RebuildWords}
 use Rattle.mr_io.specs.Growth.{no_bytes}
 use Rattle.mr_steps.specs.Texts.{matrix_given}
-use Rattle.mr_top.specs.Rebuild.{plan_file_given, asks_given, head_given, rebuild_of_parts}
+use Rattle.mr_top.specs.Rebuild.{asks_given, head_given, image_given, rebuild_of_parts}
 use Rattle.mr_steps.specs.TextFiles.{matrix_file, text_file}
 use Rattle.mr_top.specs.CheckSteps.{check_answer}
 use Rattle.mr_top.specs.Commands.{answer, command_answer}
 use Rattle.mr_top.specs.EncodeSteps.{encode_answer, encoded_file}
-use Rattle.mr_top.specs.Eyes.{plan_eyes, after, mend_eyes, rebuild_eyes, request_eyes, words_eyes}
-use Rattle.mr_top.specs.RebuildSteps.{handed_file, head_file, image_read, read_as, rebuild_answer, rebuild_by}
+use Rattle.mr_top.specs.Eyes.{plan_eyes, after, mend_eyes, rebuild_eyes, request_eyes, words_eyes, whole_eyes}
+use Rattle.mr_top.specs.RebuildSteps.{head_file, ImageParts, image_file, image_read, parts_as, rebuild_answer, rebuild_by}
 use Rattle.mr_top.specs.Check.{cost_given}
 use Rattle.mr_top.specs.Encode.{layout_given, layout_accepted}
 use Rattle.mr_steps.specs.Losses.{loss_accepted, targets_given}
 use Rattle.mr_steps.specs.Readings.{Reading, and_then, given, ◌>>=◌}
 use Rattle.mr_steps.specs.Refusals.{followed_by}
 use Rattle.mr_steps.specs.Requests.{or_usage, rebuild_words, request_of}
-use Rattle.mr_top.specs.declared.chosen.ChosenPlan.{ChosenPlan}
+use Rattle.mr_choices.specs.declared.chosen.ChosenPlan.{ChosenPlan}
 use Rattle.mr_steps.specs.declared.fault.Fault.{Fault}
-use Rattle.mr_top.specs.declared.image_read.ImageRead.{ImageRead}
 use Rattle.mr_steps.specs.declared.request.Request.{Request}
-use Rattle.mr_steps.specs.declared.request.Request.TheVariants.{Plan, Check, Make, Encode, Rebuild}
+use Rattle.mr_steps.specs.declared.request.Request.TheVariants.{Check, Convert, Encode, Make, Plan, Rebuild}
 use Rattle.mr_top.proofs.AcceptedParts.{image_of_loss, image_of_matrix, image_of_plan, rebuild_of_head, rebuild_of_loss, rebuild_of_matrix, rebuild_of_plan}
-use Rattle.mr_top.proofs.Accepting.{handed-is, image-is, matrix-is}
+use Rattle.mr_top.proofs.Accepting.{handed-is, image-is, matrix-is, head-is}
 use Rattle.mr_steps.proofs.Chains.{eyes-given}
 use Rattle.mr_top.proofs.CheckSteps.{cost_next, lost_next, plan_next, valid_next}
 use Rattle.mr_top.proofs.EncodeSteps.{code_next, head_next, image_next}
-use Rattle.mr_top.proofs.Eyes.{eyes-encoded_file, eyes-handed_file, eyes-head_file, eyes-matrix_file, eyes-plan_answer, eyes-rebuild_by, eyes-text}
+use Rattle.mr_top.proofs.Eyes.{eyes-encoded_file, eyes-handed_file, eyes-head_file, eyes-image_file, eyes-matrix_file, eyes-plan_answer, eyes-rebuild_by, eyes-text, eyes-body}
 use Rattle.mr_top.proofs.ImageSteps.{asks_next, handed_next, loss_next, matrix_next}
+use Rattle.mr_top.specs.WholeImages.{allowed_answer, image_answer}
+use Rattle.mr_top.specs.Convert.{converted_output, first_version}
+use Rattle.mr_top.proofs.WholeImages.{body_next, layout_next, spelled_next}
+use Rattle.mr_steps.specs.Sinks.{Output}
 
 -- what comes on a value
 abbrev on : {X : Type 0} → Result X Fault → (X → List Asked) → List Asked
@@ -116,11 +120,11 @@ image-eyes contents words =
     (λ targets. plan_eyes words.plan ++ on (plan_file_given m targets (option_map contents words.plan)) (λ _. record { name = words.image; duty = Head } ∷ [])) refl refl (λ targets.
     eyes-as (handed_file contents words.plan m targets) (handed_next contents words m targets) (plan_eyes words.plan) (plan_file_given m targets (option_map contents words.plan))
     (λ _. record { name = words.image; duty = Head } ∷ []) (eyes-handed_file contents words.plan m targets) (handed-is contents words.plan m targets) (λ handed.
-    eyes-given (head_file contents words.image m) (λ l. Ok (read_as m targets handed l)) ∙ eyes-head_file contents words.image m)))
+    eyes-given (image_file contents words.image m targets handed) (λ l. Ok (parts_as m targets handed l)) ∙ eyes-image_file contents words.image m targets handed)))
 
 -- the eyes and the results, step by step
 module _ (contents : List ℕ → List ℕ) (left : List ℕ) (words : RebuildWords) (head mend : List Asked) where
-  abbrev ends : ImageRead → List Asked
+  abbrev ends : ImageParts → List Asked
   ends read = [] ++ on (asks_given read.head left) (λ _. mend)
 
   step-asks : (plan : List Asked) (m : Code) (targets : ℕ) (handed : Option ChosenPlan) (l : Layout) (r : Result (List Ask) Fault)
@@ -129,13 +133,13 @@ module _ (contents : List ℕ → List ℕ) (left : List ℕ) (words : RebuildWo
   step-asks plan m targets handed l (Err fault) = refl
 
   step-head : (plan : List Asked) (m : Code) (targets : ℕ) (handed : Option ChosenPlan) (r : Result Layout Fault)
-      → (plan ++ head) ++ on (followed_by r (λ l. Ok (read_as m targets handed l))) ends ≡ plan ++ head ++ after (followed_by r (rebuild_of_head contents left words m targets handed)) mend
+      → (plan ++ head) ++ on (followed_by r (λ l. Ok (parts_as m targets handed l))) ends ≡ plan ++ head ++ after (followed_by r (rebuild_of_head contents left words m targets handed)) mend
   step-head plan m targets handed (Ok l) = step-asks plan m targets handed l (asks_given l left)
   step-head plan m targets handed (Err fault) = refl
 
   step-handed : (plan : List Asked) (m : Code) (targets : ℕ) (r : Result (Option ChosenPlan) Fault)
       → (plan ++ on r (λ _. head)) ++ on (followed_by r (image_of_plan contents words m targets)) ends ≡ plan ++ after r head ++ after (followed_by r (rebuild_of_plan contents left words m targets)) mend
-  step-handed plan m targets (Ok handed) = step-head plan m targets handed (head_given m (contents words.image))
+  step-handed plan m targets (Ok handed) = step-head plan m targets handed (image_given m targets handed (contents words.image))
   step-handed plan m targets (Err fault) = refl
 
   step-loss : (plan : List Asked) (m : Code) (r : Result ℕ Fault)
@@ -159,10 +163,39 @@ rebuild-eyes contents left words =
     (λ read. [] ++ on (asks_given read.head left) (λ _. mend_eyes words.image)) (image-eyes contents words) refl (λ read.
     eyes-as (given (asks_given read.head left)) (rebuild_by contents words read) [] (asks_given read.head left) (λ _. mend_eyes words.image) refl refl (λ asks.
     eyes-rebuild_by contents words read asks))
-    ∙ ap (λ r. (record { name = words.matrix; duty = Text } ∷ image_eyes_of contents words) ++ on r (λ (read : ImageRead). [] ++ on (asks_given read.head left) (λ _. mend_eyes words.image)))
+    ∙ ap (λ r. (record { name = words.matrix; duty = Text } ∷ image_eyes_of contents words) ++ on r (λ (read : ImageParts). [] ++ on (asks_given read.head left) (λ _. mend_eyes words.image)))
     (image-is contents left words)
     ∙ ap (λ eyes. record { name = words.matrix; duty = Text } ∷ eyes)
     (step-matrix contents left words (record { name = words.image; duty = Head } ∷ []) (mend_eyes words.image) (plan_eyes words.plan) (matrix_given (contents words.matrix)))
+
+-- ---- commands that read an image file whole
+
+module _ (allowed : Layout → Result Layout Fault) (written : Code → Layout → List ℕ → Output) (contents : List ℕ → List ℕ) (matrix image : List ℕ) where
+  abbrev head : List Asked
+  head = record { name = image; duty = Head } ∷ []
+
+  abbrev copy : List Asked
+  copy = record { name = image; duty = Copy } ∷ []
+
+  eyes-layout : (m : Code) (l : Layout) → (layout_next allowed written contents image m l).eyes ≡ [] ++ on (allowed l) (λ _. copy)
+  unfolding allowed_answer
+  eyes-layout m l =
+      eyes-as (given (allowed l)) (body_next written contents image m) [] (allowed l) (λ _. copy) refl refl (eyes-body allowed written contents matrix image m)
+
+  eyes-steps : (r : Result Code Fault) → on r (λ m. head ++ on (head_given m (contents image)) (λ l. [] ++ on (allowed l) (λ _. copy)))
+      ≡ after r head ++ after (followed_by r (λ m. followed_by (head_given m (contents image)) allowed)) copy
+  eyes-steps (Ok m) = ap (λ eyes. head ++ eyes) (on-two (head_given m (contents image)) allowed copy)
+  eyes-steps (Err fault) = refl
+
+  whole-eyes : (image_answer allowed written contents matrix image).eyes
+      ≡ whole_eyes matrix image (matrix_given (contents matrix)) (followed_by (matrix_given (contents matrix)) (λ m. followed_by (head_given m (contents image)) allowed))
+  unfolding image_answer
+  whole-eyes =
+      eyes-as (matrix_file contents matrix) (spelled_next allowed written contents image) (record { name = matrix; duty = Text } ∷ []) (matrix_given (contents matrix))
+      (λ m. head ++ on (head_given m (contents image)) (λ l. [] ++ on (allowed l) (λ _. copy))) (eyes-matrix_file contents matrix) (matrix-is contents matrix) (λ m.
+      eyes-as (head_file contents image m) (layout_next allowed written contents image m) head (head_given m (contents image)) (λ l. [] ++ on (allowed l) (λ _. copy))
+      (eyes-head_file contents image m) (head-is contents image m) (eyes-layout m))
+      ∙ ap (λ eyes. record { name = matrix; duty = Text } ∷ eyes) (eyes-steps (matrix_given (contents matrix)))
 
 -- ---- requests and words
 
@@ -172,6 +205,7 @@ request-eyes (Check matrix lost plan) contents left = check-eyes contents matrix
 request-eyes (Make code p) contents left = refl
 request-eyes (Encode matrix payload stripes bytes) contents left = encode-eyes contents matrix payload stripes bytes
 request-eyes (Rebuild matrix image lost workers budget plan) contents left = rebuild-eyes contents left (rebuild_words matrix image lost workers budget plan)
+request-eyes (Convert matrix image) contents left = whole-eyes first_version (λ _. converted_output) contents matrix image
 
 pub words-eyes : (words : List (List ℕ)) (contents : List ℕ → List ℕ) (left : List ℕ) → (answer words contents left).eyes ≡ words_eyes contents left (request_of words)
 unfolding answer

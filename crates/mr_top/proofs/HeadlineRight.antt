@@ -1,54 +1,62 @@
 -- A run that answers its words keeps to the headline.
-use Rattle.std.proofs.Common.{arith, ◌≡◌, ◌≢◌, ℕ, ◌+◌, Bool, true, false, cond, nat_le, nat_lt, List, ◌++◌, length, Option, Some, None, IfSome, Result, Ok, Err, refl, sym, ◌∙◌, ap, subst, option_map, take}
+use Rattle.std.proofs.Common.{arith, ◌≡◌, ◌≢◌, ◌⊎◌, inl, inr, ℕ, ◌+◌, ◌<◌, ◌^◌, ◌==◌, ◌&&◌, Bool, true, false, cond, is_some, nat_le, nat_lt, List, ◌++◌, length, Option, Some, None, IfSome, Result, Ok, Err, refl, sym, ◌∙◌, ap, subst, option_map, take}
 use Rattle.mr_bits.specs.Matrices.{IsMatrixCode}
 use Rattle.mr_bits.specs.declared.errors.What.{What}
 use Rattle.mr_bits.specs.declared.errors.What.TheVariants.{PlanBytes, ScriptBytes}
-use Rattle.mr_eq.specs.Problems.{IsLoss}
+use Rattle.mr_choices.specs.Chosen.{chosen_by}
+use Rattle.mr_choices.specs.Handed.{as_given, handed_given, or_plan_line, or_wrong, plan_file_given, sound_given}
+use Rattle.mr_choices.specs.Rotations.{undetermined_at}
+use Rattle.mr_choices.specs.declared.chosen.ChosenPlan.{ChosenPlan}
+use Rattle.mr_choices.specs.declared.errors.UndeterminedAt.{UndeterminedAt as FoundAt}
+use Rattle.mr_choices.proofs.AtLaws.{found-least}
 use Rattle.mr_image.specs.Heads.{image_bytes, read_head}
 use Rattle.mr_image.specs.Images.{ComeFrom, Layout, code_image, every_stripe, image_of}
+use Rattle.mr_image.specs.Rotated.{codes_by, rotations}
 use Rattle.mr_image.specs.declared.faults.HeadFault.{HeadFault}
 use Rattle.mr_image.specs.declared.faults.HeadFault.TheVariants.{Bad as IsBadHead, Large as IsLargeImage}
-use Rattle.mr_image.specs.declared.faults.ImageKind.TheVariants.{Head}
-use Rattle.mr_image.proofs.Codewords.{gives-codewords}
+use Rattle.mr_image.specs.declared.faults.ImageKind.TheVariants.{Head, Planned}
+use Rattle.mr_image.specs.declared.limits.TheConstants.{HEAD_BYTES}
 use Rattle.mr_mend.specs.Replies.{reply_lines}
+use Rattle.mr_mend.specs.Rotations.{AreValidPlans}
 use Rattle.mr_mend.specs.Scripts.{asks_of, script_limit}
 use Rattle.mr_mend.specs.declared.asks.Ask.{Ask}
 use Rattle.mr_mend.specs.declared.asks.ScriptFault.{ScriptFault}
 use Rattle.mr_mend.specs.declared.asks.ScriptFault.TheVariants.{Line as IsBadLine, Large as IsLargeScript, Memory as ScriptMemory}
-use Rattle.mr_mend.proofs.ReplyImages.{code-lines}
-use Rattle.mr_model.specs.Code.{Code, dimensions}
+use Rattle.mr_mend.proofs.Planned.{gives-rotated}
+use Rattle.mr_mend.proofs.ReplyImages.{reply_lines-same}
+use Rattle.mr_model.specs.Code.{Code, dimensions, undetermined}
 use Rattle.mr_plan.specs.Checks.{first_fault, sound_unless}
+use Rattle.mr_plan.specs.PlanLists.{plan_at}
 use Rattle.mr_plan.specs.Plans.{PlanParts, survivors}
 use Rattle.mr_plan.specs.Readings.{read_plan}
 use Rattle.mr_plan.specs.declared.errors.PlanLine.{PlanLine}
 use Rattle.mr_plan.specs.declared.errors.Wrong.{Wrong}
 use Rattle.mr_words.specs.declared.rebuild_words.RebuildWords.{RebuildWords}
-use Rattle.mr_steps.specs.Refusals.{Gave, refusal_of, status_by, followed_by}
-use Rattle.mr_steps.specs.Texts.{matrix_given, within_limit, IsCodeAt}
-use Rattle.mr_steps.proofs.Results.{ok-same}
-use Rattle.mr_top.specs.Plan.{PlanAccepted, plan_accepted, plan_written, chosen_by, plan_of_parts}
-use Rattle.mr_top.specs.Rebuild.{RebuildAccepted, plan_file_given, rebuild_accepted, IsRebuilt, as_given, asks_given, handed_given, head_given, or_script_fault, plan_report, script_within}
-use Rattle.mr_steps.specs.Sinks.{Output, HasLine}
-use Rattle.mr_top.specs.Answered.{HasCode, IsAnswer, IsAnswered, refusal, words_refusal}
-use Rattle.mr_top.specs.Check.{or_plan_line, or_wrong, sound_given}
-use Rattle.mr_top.specs.Encode.{or_head_fault}
 use Rattle.mr_steps.specs.Faults.{fault_line, fault_status}
-use Rattle.mr_top.specs.Headline.{HasPlanned, HasRebuilt, Headline, IsLeastUndetermined, IsPlanWanted, IsRefused, PlansRight, RebuildsRight}
-use Rattle.mr_steps.specs.Losses.{loss_of, symbols_of_devices, targets_given}
-use Rattle.mr_top.specs.Ran.{Ran, Wrote}
+use Rattle.mr_steps.specs.Losses.{lost_given, symbols_of_devices, targets_given}
+use Rattle.mr_steps.specs.Refusals.{Gave, refusal_of, status_by, followed_by}
 use Rattle.mr_steps.specs.Requests.{rebuild_words, request_of}
-use Rattle.mr_top.specs.Taken.{IsTaken, TookRight}
-use Rattle.mr_top.specs.declared.chosen.ChosenPlan.{ChosenPlan}
+use Rattle.mr_steps.specs.Sinks.{Output, HasLine}
+use Rattle.mr_steps.specs.Texts.{matrix_given, text_limit, within_limit}
 use Rattle.mr_steps.specs.declared.fault.Fault.{Fault}
-use Rattle.mr_steps.specs.declared.fault.Fault.TheVariants.{BadImage, TooLarge, Undetermined}
+use Rattle.mr_steps.specs.declared.fault.Fault.TheVariants.{BadImage, TooLarge, Undetermined, UndeterminedAt}
 use Rattle.mr_steps.specs.declared.request.Request.{Request}
-use Rattle.mr_steps.specs.declared.request.Request.TheVariants.{Plan, Check, Make, Encode, Rebuild}
-use Rattle.mr_top.proofs.AcceptedParts.{rebuild_of_loss}
-use Rattle.mr_top.proofs.Answering.{AcceptedBy, accepted-by}
-use Rattle.mr_top.proofs.CodewordsOwn.{asks-inside, mended-own, targets-loss}
-use Rattle.mr_top.proofs.HeadLimits.{head-limits}
-use Rattle.mr_top.proofs.RebuildSteps.{covers, rows-are}
-use Rattle.mr_top.proofs.Wanting.{Determined, Refused, TargetsCases, plan-wanted, targets-cases, targets-refused, used-wanted}
+use Rattle.mr_steps.specs.declared.request.Request.TheVariants.{Check, Convert, Encode, Make, Plan, Rebuild}
+use Rattle.mr_steps.proofs.Results.{followed-followed, ok-same}
+use Rattle.mr_top.specs.Answered.{IsAnswer, IsAnswered, refusal, words_refusal}
+use Rattle.mr_top.specs.Encode.{or_head_fault}
+use Rattle.mr_top.specs.Headline.{HasPlanned, HasRebuilt, Headline, IsImageRefused, IsLeastRotation, IsLeastUndetermined, IsPlanWanted, IsRefused, PlansRight, RebuildsRight}
+use Rattle.mr_top.specs.Plan.{PlanAccepted, plan_accepted, plan_written, plan_of_parts}
+use Rattle.mr_top.specs.Ran.{Ran, Wrote}
+use Rattle.mr_top.specs.Rebuild.{RebuildAccepted, rebuild_accepted, IsRebuilt, asks_given, head_given, layout_allowed, line_at, mended_image_of, or_script_fault, plans_report, plans_used, rebuild_of_parts, rotations_given, script_within, unless_rotation, unplanned}
+use Rattle.mr_top.specs.Taken.{IsTaken, TookRight}
+use Rattle.mr_top.proofs.AcceptedParts.{rebuild_of_head, rebuild_of_loss, rebuild_of_plan}
+use Rattle.mr_top.proofs.Answering.{AcceptedBy, accepted-by, accepted-code, accepted-image}
+use Rattle.mr_top.proofs.CodewordsOwn.{asks-inside, given-code, given-valid, targets-loss}
+use Rattle.mr_top.proofs.HeadLimits.{IsImageGiven, head-limits, unplanned-ok}
+use Rattle.mr_top.proofs.RotationFaults.{first-determined, least-rotation, rotation-found}
+use Rattle.mr_top.proofs.Rotations.{used-valid, used-wanted}
+use Rattle.mr_top.proofs.Wanting.{Determined, Refused, TargetsCases, plan-wanted, targets-cases, targets-determined, targets-refused}
 
 -- ---- steps that do not refuse with the status 7
 
@@ -71,7 +79,7 @@ past-if true fault step other past = other
 past-if false fault step other past = past
 
 past-limit : (what : What) (bytes : List ℕ) → IsPast (within_limit what bytes)
-past-limit what bytes = past-unless (nat_le (length bytes) 65536) bytes (TooLarge what (length bytes)) (λ e. omega (arith, e))
+past-limit what bytes = past-unless (nat_le (length bytes) text_limit) bytes (TooLarge what (length bytes)) (λ e. omega (arith, e))
 
 past-line : (r : Result PlanParts PlanLine) → IsPast (or_plan_line r)
 past-line (Ok plan) = past-ok plan
@@ -93,6 +101,9 @@ past-plan m targets (Some bytes) =
     past-then (within_limit PlanBytes bytes) (handed_given m targets) (past-limit PlanBytes bytes) (λ text.
     past-then (sound_given m targets text) (λ plan. Ok (Some (as_given m plan))) (past-sound m targets text) (λ plan. past-ok (Some (as_given m plan))))
 
+past-unplanned : (handed : Option ChosenPlan) (l : Layout) → IsPast (unplanned handed l)
+past-unplanned handed l = past-if (is_some handed && l.version == 2) (BadImage Planned) (Ok l) (λ e. omega (arith, e)) (past-ok l)
+
 past-head-fault : (r : Result Layout HeadFault) → IsPast (or_head_fault r)
 past-head-fault (Ok l) = past-ok l
 past-head-fault (Err (IsBadHead kind)) = λ e. omega (arith, e)
@@ -101,8 +112,8 @@ past-head-fault (Err (IsLargeImage large)) = λ e. omega (arith, e)
 past-head : (m : Code) (bytes : List ℕ) → IsPast (head_given m bytes)
 unfolding head_given
 past-head m bytes =
-    past-if (nat_lt (length bytes) 32) (BadImage Head) (or_head_fault (read_head (take 32 bytes) (dimensions m) (length bytes)))
-    (λ e. omega (arith, e)) (past-head-fault (read_head (take 32 bytes) (dimensions m) (length bytes)))
+    past-if (nat_lt (length bytes) HEAD_BYTES) (BadImage Head) (or_head_fault (read_head (take HEAD_BYTES bytes) (dimensions m) (length bytes)))
+    (λ e. omega (arith, e)) (past-head-fault (read_head (take HEAD_BYTES bytes) (dimensions m) (length bytes)))
 
 past-script-fault : (r : Result (List Ask) ScriptFault) → IsPast (or_script_fault r)
 past-script-fault (Ok asks) = past-ok asks
@@ -119,7 +130,7 @@ past-asks l left =
 
 -- ---- a loss that is not determined
 
-module _ {X : Type 0} (contents : List ℕ → List ℕ) (matrix lost : List ℕ) (next : Code → ℕ → Result X Fault) (past : (m : Code) (targets : ℕ) → IsPast (next m targets))
+module _ {X : Type 0} (contents : List ℕ → List ℕ) (matrix lost : List ℕ) (next : Code → ℕ → Result X Fault)
     (first : Option Fault) (failed : Type 0) (ran : Ran)
     (first_is : first ≡ refusal_of (followed_by (matrix_given (contents matrix)) (λ m. followed_by (targets_given m lost) (next m))))
     (status : ran.status ≡ status_by first) (line : (fault : Fault) → first ≡ Some fault → HasLine ran.report_old ran.report_new failed (fault_line fault)) where
@@ -131,19 +142,116 @@ module _ {X : Type 0} (contents : List ℕ → List ℕ) (matrix lost : List ℕ
       ∙ ap (λ s. refusal_of (followed_by s (λ m. followed_by (targets_given m lost) (next m)))) reads
       ∙ ap (λ s. refusal_of (followed_by s (next m))) loses
 
-  only-by : (m : Code) (devices : ℕ) → matrix_given (contents matrix) ≡ Ok m → ran.status ≡ 7
-      → TargetsCases m lost (symbols_of_devices m devices) → (t : ℕ) × IsLeastUndetermined m (symbols_of_devices m devices) t
-  only-by m devices reads seven (Determined loses) =
-      absurd (past m (symbols_of_devices m devices)
-      (sym (ap status_by (by-targets m (Ok (symbols_of_devices m devices)) reads loses)) ∙ sym status ∙ seven))
-  only-by m devices reads seven (Refused t h) = (t, h)
+  -- a fault that is the first
+  told-as : (fault : Fault) → first ≡ Some fault → fault_status fault ≡ 7
+      → (ran.status ≡ 7) × HasLine ran.report_old ran.report_new failed (fault_line fault)
+  told-as fault is seven = (status ∙ ap status_by is ∙ seven, line fault is)
 
-  pub is-refused : IsRefused contents matrix lost failed ran
-  is-refused = record {
-    refused = λ m devices t reads names h.
-        let is : first ≡ Some (Undetermined t) = by-targets m (Err (Undetermined t)) reads (targets-refused m lost devices t names h) in
-        (status ∙ ap status_by is, line (Undetermined t) is);
-    only = λ m devices reads names seven. only-by m devices reads seven (targets-cases m lost devices names);
+  -- a loss that is not determined is refused
+  loss-refused : (m : Code) (devices t : ℕ) → matrix_given (contents matrix) ≡ Ok m → lost_given m.devices lost ≡ Ok devices
+      → IsLeastUndetermined m (symbols_of_devices m devices) t
+      → (ran.status ≡ 7) × HasLine ran.report_old ran.report_new failed (fault_line (Undetermined t))
+  loss-refused m devices t reads names h =
+      told-as (Undetermined t) (by-targets m (Err (Undetermined t)) reads (targets-refused m lost devices t names h)) refl
+
+  -- where it is determined, the status is that of what comes next
+  next-status : (m : Code) (devices : ℕ) → matrix_given (contents matrix) ≡ Ok m → targets_given m lost ≡ Ok (symbols_of_devices m devices) → ran.status ≡ 7
+      → status_by (refusal_of (next m (symbols_of_devices m devices))) ≡ 7
+  next-status m devices reads loses seven =
+      sym (ap status_by (by-targets m (Ok (symbols_of_devices m devices)) reads loses)) ∙ sym status ∙ seven
+
+  only-by : ((m : Code) (targets : ℕ) → IsPast (next m targets)) → (m : Code) (devices : ℕ) → matrix_given (contents matrix) ≡ Ok m → ran.status ≡ 7
+      → TargetsCases m lost (symbols_of_devices m devices) → (t : ℕ) × IsLeastUndetermined m (symbols_of_devices m devices) t
+  only-by past m devices reads seven (Determined none loses) = absurd (past m (symbols_of_devices m devices) (next-status m devices reads loses seven))
+  only-by past m devices reads seven (Refused t h) = (t, h)
+
+  pub is-refused : ((m : Code) (targets : ℕ) → IsPast (next m targets)) → IsRefused contents matrix lost failed ran
+  is-refused past = record {
+    refused = loss-refused;
+    only = λ m devices reads names seven. only-by past m devices reads seven (targets-cases m lost devices names);
+  }
+
+-- ---- a rotation that is not determined
+
+-- a status 7 of two steps, of which the first has none, is that of the second
+seven-next : {X Y : Type 0} (step : Result X Fault) (next : X → Result Y Fault) → IsPast step → status_by (refusal_of (followed_by step next)) ≡ 7
+    → Gave step (λ x. status_by (refusal_of (next x)) ≡ 7)
+seven-next (Ok x) next past seven = record { value = x; is = refl; holds = seven }
+seven-next (Err fault) next past seven = absurd (past seven)
+
+-- a rotation of the image is not determined
+abbrev OfRotation : (List ℕ → List ℕ) → RebuildWords → Code → ℕ → Type 0
+OfRotation contents words m lost =
+    (l : Layout) × (r : ℕ) × (t : ℕ) × (head_given m (contents words.image) ≡ Ok l) × IsLeastRotation l m lost r t
+
+module _ (contents : List ℕ → List ℕ) (left : List ℕ) (words : RebuildWords) (m : Code) (lost : ℕ) (code : IsMatrixCode m)
+    (determined : undetermined m (survivors m lost) lost ≡ None) where
+  by-found : (handed : Option ChosenPlan) (l : Layout) (o : Option FoundAt) → head_given m (contents words.image) ≡ Ok l → undetermined_at m lost (rotations l) ≡ o
+      → status_by (refusal_of (followed_by (unless_rotation o l) (rebuild_of_head contents left words m lost handed))) ≡ 7 → OfRotation contents words m lost
+  by-found handed l None spells none seven =
+      absurd (past-then (asks_given l left) (λ asks. Ok (rebuild_of_parts contents words m lost handed l asks)) (past-asks l left) (λ asks e. omega (arith, e)) seven)
+  by-found handed l (Some at) spells some seven = (
+    l,
+    at.rotation,
+    at.symbol,
+    spells,
+    least-rotation l m lost code (head-limits m (contents words.image) l code spells).fits at determined (found-least m lost (rotations l) at some),
+  )
+
+  by-head : (handed : Option ChosenPlan) (l k : Layout) → head_given m (contents words.image) ≡ Ok l → l ≡ k
+      → status_by (refusal_of (followed_by (rotations_given m lost k) (rebuild_of_head contents left words m lost handed))) ≡ 7 → OfRotation contents words m lost
+  by-head handed l k spells same seven =
+      by-found handed k (undetermined_at m lost (rotations k)) (spells ∙ ap (λ (x : Layout). Ok x) same) refl seven
+
+  -- after the loss the status 7 comes from a rotation alone
+  seven-rotation : status_by (refusal_of (rebuild_of_loss contents left words m lost)) ≡ 7 → OfRotation contents words m lost
+  seven-rotation seven =
+      let plan = seven-next (plan_file_given m lost (option_map contents words.plan)) (rebuild_of_plan contents left words m lost) (past-plan m lost (option_map contents words.plan)) seven in
+      let behind : Layout → Result RebuildAccepted Fault = rebuild_of_head contents left words m lost plan.value in
+      let flat : status_by (refusal_of (followed_by (head_given m (contents words.image)) (λ l. followed_by (layout_allowed m lost plan.value l) behind))) ≡ 7 =
+      ap (λ r. status_by (refusal_of r)) (sym (followed-followed (head_given m (contents words.image)) (layout_allowed m lost plan.value) behind)) ∙ plan.holds in
+      let head = seven-next (head_given m (contents words.image)) (λ l. followed_by (layout_allowed m lost plan.value l) behind) (past-head m (contents words.image)) flat in
+      let flat_head : status_by (refusal_of (followed_by (unplanned plan.value head.value) (λ l. followed_by (rotations_given m lost l) behind))) ≡ 7 =
+      ap (λ r. status_by (refusal_of r)) (sym (followed-followed (unplanned plan.value head.value) (rotations_given m lost) behind)) ∙ head.holds in
+      let free = seven-next (unplanned plan.value head.value) (λ l. followed_by (rotations_given m lost l) behind) (past-unplanned plan.value head.value) flat_head in
+      by-head plan.value head.value free.value head.is (unplanned-ok plan.value head.value free.value free.is).1 free.holds
+
+module _ (contents : List ℕ → List ℕ) (left : List ℕ) (words : RebuildWords) (first : Option Fault) (failed : Type 0) (ran : Ran)
+    (first_is : first ≡ refusal_of (rebuild_accepted contents left words))
+    (status : ran.status ≡ status_by first) (line : (fault : Fault) → first ≡ Some fault → HasLine ran.report_old ran.report_new failed (fault_line fault)) where
+  -- what is refused of an image in which a rotation is not determined
+  rotation-refusal : (m : Code) (lost : ℕ) (l : Layout) (at : FoundAt) → words.plan ≡ None → head_given m (contents words.image) ≡ Ok l
+      → undetermined_at m lost (rotations l) ≡ Some at
+      → rebuild_of_loss contents left words m lost ≡ Err (UndeterminedAt at.rotation at.symbol)
+  rotation-refusal m lost l at none spells some =
+      ap (λ plan. followed_by (plan_file_given m lost (option_map contents plan)) (rebuild_of_plan contents left words m lost)) none
+      ∙ ap (λ r. followed_by (followed_by r (layout_allowed m lost None)) (rebuild_of_head contents left words m lost None)) spells
+      ∙ ap (λ o. followed_by (unless_rotation o l) (rebuild_of_head contents left words m lost None)) some
+
+  later-refused : (m : Code) (devices : ℕ) (l : Layout) (r t : ℕ) → matrix_given (contents words.matrix) ≡ Ok m → lost_given m.devices words.lost ≡ Ok devices
+      → words.plan ≡ None → head_given m (contents words.image) ≡ Ok l → IsLeastRotation l m (symbols_of_devices m devices) r t
+      → (ran.status ≡ 7) × HasLine ran.report_old ran.report_new failed (fault_line (UndeterminedAt r t))
+  later-refused m devices l r t reads names none spells least =
+      let lost : ℕ = symbols_of_devices m devices in
+      let code = given-code (contents words.matrix) m reads in
+      let fits = (head-limits m (contents words.image) l code spells).fits in
+      let loses : targets_given m words.lost ≡ Ok lost = targets-determined m words.lost devices names (first-determined l m lost code fits r t least) in
+      told-as contents words.matrix words.lost (rebuild_of_loss contents left words) first failed ran first_is status line (UndeterminedAt r t)
+      (by-targets contents words.matrix words.lost (rebuild_of_loss contents left words) first failed ran first_is status line m (Ok lost) reads loses
+      ∙ ap refusal_of (rotation-refusal m lost l (record { rotation = r; symbol = t }) none spells (rotation-found l m lost code fits r t least))) refl
+
+  only-cases : (m : Code) (devices : ℕ) → matrix_given (contents words.matrix) ≡ Ok m → ran.status ≡ 7 → TargetsCases m words.lost (symbols_of_devices m devices)
+      → ((t : ℕ) × IsLeastUndetermined m (symbols_of_devices m devices) t) ⊎ OfRotation contents words m (symbols_of_devices m devices)
+  only-cases m devices reads seven (Refused t h) = inl (t, h)
+  only-cases m devices reads seven (Determined none loses) =
+      inr (seven-rotation contents left words m (symbols_of_devices m devices) (given-code (contents words.matrix) m reads) none
+      (next-status contents words.matrix words.lost (rebuild_of_loss contents left words) first failed ran first_is status line m devices reads loses seven))
+
+  pub image-refused : IsImageRefused contents words failed ran
+  image-refused = record {
+    refused = loss-refused contents words.matrix words.lost (rebuild_of_loss contents left words) first failed ran first_is status line;
+    later = later-refused;
+    only = λ m devices reads names seven. only-cases m devices reads seven (targets-cases m words.lost devices names);
   }
 
 -- ---- what was written
@@ -153,43 +261,52 @@ wrote-as : (ran : Ran) (output : Output) (out report : List ℕ) → output.out 
 wrote-as ran output out report o r w = subst (λ x. Wrote ran out x) r (subst (λ x. Wrote ran x output.report) o w)
 
 module _ (contents : List ℕ → List ℕ) (left : List ℕ) (words : RebuildWords) (ran : Ran) (output : Output) (r : RebuildAccepted)
-    (by : AcceptedBy contents left words r) (code : IsMatrixCode r.code) (is : IsRebuilt r output) (wrote : Wrote ran output.out output.report)
+    (by : AcceptedBy contents left words r) (is : IsRebuilt r output) (wrote : Wrote ran output.out output.report)
     (took : IsTaken contents words r ran.totals_old ran.totals_new) where
-  loss : IsLoss (loss_of r.code r.lost)
-  loss = targets-loss r.code words.lost r.lost code by.lost_is
+  code : IsMatrixCode r.code
+  code = accepted-code contents left words r by
 
-  wanted : IsPlanWanted r.code r.lost words.budget (option_map contents words.plan) r.chosen.plan r.chosen.line
-  wanted =
-      subst (λ (c : ChosenPlan). IsPlanWanted r.code r.lost words.budget (option_map contents words.plan) c.plan c.line) (sym by.chosen_is)
-      (used-wanted r.code r.lost words.budget (option_map contents words.plan) by.handed loss by.handed_is)
+  image : IsImageGiven r.code r.lost by.handed r.bytes r.layout
+  image = accepted-image contents left words r by
 
-  spells : head_given r.code r.bytes ≡ Ok r.layout
-  spells = ap (head_given r.code) by.bytes_is ∙ by.layout_is
+  below : r.lost < 2 ^ length r.code.rows
+  below = (targets-loss r.code words.lost r.lost code by.lost_is).targets_below
+
+  valid : AreValidPlans r.layout r.code r.lost r.plans
+  valid =
+      subst (λ plans. AreValidPlans r.layout r.code r.lost plans) (sym by.plans_is)
+      (used-valid r.layout r.code r.lost code image.limits.fits below image.determined words.budget by.handed
+      (given-valid (option_map contents words.plan) r.code r.lost by.handed by.handed_is) image.version)
+
+  wanted : (k : ℕ) → k < rotations r.layout
+      → IsPlanWanted (codes_by r.layout r.code k) r.lost words.budget (option_map contents words.plan) (plan_at r.plans k) (line_at r.lines k)
+  wanted k low =
+      subst (λ plans. IsPlanWanted (codes_by r.layout r.code k) r.lost words.budget (option_map contents words.plan) (plan_at plans k) (line_at r.lines k)) (sym by.plans_is)
+      (subst (λ lines. IsPlanWanted (codes_by r.layout r.code k) r.lost words.budget (option_map contents words.plan)
+      (plan_at (plans_used r.code r.lost words.budget (rotations r.layout) by.handed) k) (line_at lines k)) (sym by.lines_is)
+      (used-wanted r.layout r.code r.lost code image.limits.fits below image.determined words.budget (option_map contents words.plan) by.handed by.handed_is image.version k low))
 
   own-at : (columns : ℕ → List (List ℕ))
-      → ComeFrom r.layout (every_stripe r.code) (every_stripe (survivors r.code r.lost)) (image_of r.layout r.bytes) columns
-      → Wrote ran (image_bytes r.layout (code_image r.layout (every_stripe r.code) columns))
-      (plan_report r.chosen r.layout.stripes ++ reply_lines (code_image r.layout (every_stripe r.code) columns) r.asks)
+      → ComeFrom r.layout (codes_by r.layout r.code) (every_stripe (survivors r.code r.lost)) (image_of r.layout r.bytes) columns
+      → Wrote ran (image_bytes r.layout (code_image r.layout (codes_by r.layout r.code) columns))
+      (plans_report r.layout r.plans r.lines ++ reply_lines (code_image r.layout (codes_by r.layout r.code) columns) r.asks)
   own-at columns from =
-      let limits = head-limits r.code r.bytes r.layout code spells in
-      let rows = rows-are r.code r.layout code limits.devices limits.symbols in
+      let gives = gives-rotated r.layout image.limits.limits in
       wrote-as ran output _ _
-      (is.image ∙ mended-own r.code r.layout r.lost r.chosen.plan r.bytes columns limits.limits rows wanted.valid from)
-      (is.report ∙ ap (λ lines. plan_report r.chosen r.layout.stripes ++ lines)
-      (code-lines r.layout (every_stripe r.code) (every_stripe (survivors r.code r.lost)) (every_stripe r.lost) (every_stripe r.chosen.plan.set) (every_stripe r.chosen.plan.recipes)
-      (image_of r.layout r.bytes) columns r.asks (gives-codewords r.layout limits.limits)
-      (record { covered = λ s here. covers r.code r.layout r.lost rows; valid = λ s here. wanted.valid }) from
+      (is.image ∙ gives.file r.code r.lost r.plans (image_of r.layout r.bytes) columns code image.limits.fits valid from)
+      (is.report ∙ ap (λ lines. plans_report r.layout r.plans r.lines ++ lines)
+      (reply_lines-same r.layout (mended_image_of r) (code_image r.layout (codes_by r.layout r.code) columns) r.asks
+      (gives.symbols r.code r.lost r.plans (image_of r.layout r.bytes) columns code image.limits.fits valid from)
       (asks-inside r.layout left r.asks by.asks_is)))
       wrote
 
   has-rebuilt : HasRebuilt r.code r.lost words.budget (option_map contents words.plan) r.layout r.bytes r.asks ran
   has-rebuilt = record {
-    plan = r.chosen.plan;
-    line = r.chosen.line;
+    plans = r.plans;
+    lines = r.lines;
+    count = valid.count;
     wanted = wanted;
     once = took.mend;
-    front = plan_report r.chosen r.layout.stripes;
-    front_is = refl;
     mended_file = wrote-as ran output _ _ is.image is.report wrote;
     own = own-at;
   }
@@ -201,7 +318,7 @@ module _ (contents : List ℕ → List ℕ) (left : List ℕ) (words : RebuildWo
   rebuilt-for m targets l asks reads loses heads asking =
       let me : r.code ≡ m = ok-same (sym by.matrix_is ∙ reads) in
       let te : r.lost ≡ targets = ok-same (sym by.lost_is ∙ ap (λ (x : Code). targets_given x words.lost) me ∙ loses) in
-      let le : r.layout ≡ l = ok-same (sym by.layout_is ∙ ap (λ (x : Code). head_given x (contents words.image)) me ∙ heads) in
+      let le : r.layout ≡ l = ok-same (sym image.head ∙ ap (head_given r.code) by.bytes_is ∙ ap (λ (x : Code). head_given x (contents words.image)) me ∙ heads) in
       let ae : r.asks ≡ asks = ok-same (sym by.asks_is ∙ ap (λ (x : Layout). asks_given x left) le ∙ asking) in
       let handed : Option (List ℕ) = option_map contents words.plan in
       subst (λ (x : Code). HasRebuilt x targets words.budget handed l (contents words.image) asks ran) me
@@ -215,24 +332,17 @@ module _ (contents : List ℕ → List ℕ) (left : List ℕ) (words : RebuildWo
 abbrev plan_next : ℕ → Code → ℕ → Result PlanAccepted Fault
 plan_next budget m targets = Ok (plan_of_parts budget m targets)
 
-past-rebuild : (contents : List ℕ → List ℕ) (left : List ℕ) (words : RebuildWords) (m : Code) (targets : ℕ) → IsPast (rebuild_of_loss contents left words m targets)
-past-rebuild contents left words m targets =
-    past-then (plan_file_given m targets (option_map contents words.plan)) _ (past-plan m targets (option_map contents words.plan)) (λ handed.
-    past-then (head_given m (contents words.image)) _ (past-head m (contents words.image)) (λ l.
-    past-then (asks_given l left) _ (past-asks l left) (λ asks e. omega (arith, e))))
-
 -- What a run of this request says of its status and its sinks.
 record IsRunOf (request : Request) (contents : List ℕ → List ℕ) (left : List ℕ) (failed : Type 0) (ran : Ran) : Type 0 where
   status : ran.status ≡ status_by (refusal contents left request)
   line : (fault : Fault) → refusal contents left request ≡ Some fault → HasLine ran.report_old ran.report_new failed (fault_line fault)
   written : ran.status ≡ 0 → (output : Output) × IsAnswered request contents left output × Wrote ran output.out output.report
-  coded : ran.status ≡ 0 → HasCode request contents
   took : ran.status ≡ 0 → TookRight request contents left ran.totals_old ran.totals_new
 
 has-planned : (contents : List ℕ → List ℕ) (matrix lost : List ℕ) (budget : ℕ) (ran : Ran) (output : Output)
-    → Gave (plan_accepted contents matrix lost budget) (λ p. output ≡ plan_written p) → Wrote ran output.out output.report → IsCodeAt contents matrix
+    → Gave (plan_accepted contents matrix lost budget) (λ p. output ≡ plan_written p) → Wrote ran output.out output.report
     → (m : Code) (targets : ℕ) → matrix_given (contents matrix) ≡ Ok m → targets_given m lost ≡ Ok targets → HasPlanned m targets budget ran
-has-planned contents matrix lost budget ran output g wrote coded m targets reads loses =
+has-planned contents matrix lost budget ran output g wrote m targets reads loses =
     let all : plan_accepted contents matrix lost budget ≡ plan_next budget m targets =
     ap (λ s. followed_by s (λ m. followed_by (targets_given m lost) (plan_next budget m))) reads
     ∙ ap (λ s. followed_by s (plan_next budget m)) loses in
@@ -241,27 +351,27 @@ has-planned contents matrix lost budget ran output g wrote coded m targets reads
     record {
       plan = (chosen_by m targets budget).plan;
       line = (chosen_by m targets budget).line;
-      wanted = plan-wanted m targets budget (targets-loss m lost targets (coded m reads) loses);
+      wanted = plan-wanted m targets budget (targets-loss m lost targets (given-code (contents matrix) m reads) loses);
       wrote = wrote-as ran output _ _ (ap (λ (o : Output). o.out) is) (ap (λ (o : Output). o.report) is) wrote;
     }
 
 plans-right : (matrix lost : List ℕ) (workers budget : ℕ) (contents : List ℕ → List ℕ) (left : List ℕ) (failed : Type 0) (ran : Ran)
     → IsRunOf (Plan matrix lost workers budget) contents left failed ran → PlansRight contents matrix lost budget failed ran
 plans-right matrix lost workers budget contents left failed ran f = record {
-  refused = is-refused contents matrix lost (plan_next budget) (λ m targets e. omega (arith, e)) (refusal contents left (Plan matrix lost workers budget)) failed ran refl f.status f.line;
-  planned = λ zero. has-planned contents matrix lost budget ran (f.written zero).0 (f.written zero).1 (f.written zero).2 (f.coded zero);
+  refused = is-refused contents matrix lost (plan_next budget) (refusal contents left (Plan matrix lost workers budget)) failed ran refl f.status f.line (λ m targets e. omega (arith, e));
+  planned = λ zero. has-planned contents matrix lost budget ran (f.written zero).0 (f.written zero).1 (f.written zero).2;
 }
 
 has-mended : (contents : List ℕ → List ℕ) (left : List ℕ) (words : RebuildWords) (ran : Ran) (output : Output)
-    → Gave (rebuild_accepted contents left words) (λ r. IsRebuilt r output) → Wrote ran output.out output.report → IsCodeAt contents words.matrix
+    → Gave (rebuild_accepted contents left words) (λ r. IsRebuilt r output) → Wrote ran output.out output.report
     → Gave (rebuild_accepted contents left words) (λ r. IsTaken contents words r ran.totals_old ran.totals_new)
     → (m : Code) (targets : ℕ) (l : Layout) (asks : List Ask)
     → matrix_given (contents words.matrix) ≡ Ok m → targets_given m words.lost ≡ Ok targets
     → head_given m (contents words.image) ≡ Ok l → asks_given l left ≡ Ok asks
     → HasRebuilt m targets words.budget (option_map contents words.plan) l (contents words.image) asks ran
-has-mended contents left words ran output g wrote coded took =
+has-mended contents left words ran output g wrote took =
     let by = accepted-by contents left words g.value g.is in
-    rebuilt-for contents left words ran output g.value by (coded g.value.code by.matrix_is) g.holds wrote
+    rebuilt-for contents left words ran output g.value by g.holds wrote
     (subst (λ (r : RebuildAccepted). IsTaken contents words r ran.totals_old ran.totals_new) (ok-same (sym took.is ∙ g.is)) took.holds)
 
 rebuilds-right : (matrix image lost : List ℕ) (workers budget : ℕ) (plan : Option (List ℕ)) (contents : List ℕ → List ℕ) (left : List ℕ) (failed : Type 0) (ran : Ran)
@@ -270,9 +380,8 @@ rebuilds-right : (matrix image lost : List ℕ) (workers budget : ℕ) (plan : O
 rebuilds-right matrix image lost workers budget plan contents left failed ran f =
     let words : RebuildWords = rebuild_words matrix image lost workers budget plan in
     record {
-      refused = is-refused contents matrix lost (rebuild_of_loss contents left words) (past-rebuild contents left words)
-          (refusal contents left (Rebuild matrix image lost workers budget plan)) failed ran refl f.status f.line;
-      rebuilt = λ zero. has-mended contents left words ran (f.written zero).0 (f.written zero).1 (f.written zero).2 (f.coded zero) (f.took zero);
+      refused = image-refused contents left words (refusal contents left (Rebuild matrix image lost workers budget plan)) failed ran refl f.status f.line;
+      rebuilt = λ zero. has-mended contents left words ran (f.written zero).0 (f.written zero).1 (f.written zero).2 (f.took zero);
     }
 
 headline-right : (request : Request) (contents : List ℕ → List ℕ) (left : List ℕ) (failed : Type 0) (ran : Ran)
@@ -281,6 +390,7 @@ headline-right (Plan matrix lost workers budget) contents left failed ran f = pl
 headline-right (Check matrix lost plan) contents left failed ran f = tt
 headline-right (Make code p) contents left failed ran f = tt
 headline-right (Encode matrix payload stripes bytes) contents left failed ran f = tt
+headline-right (Convert matrix image) contents left failed ran f = tt
 headline-right (Rebuild matrix image lost workers budget plan) contents left failed ran f =
     rebuilds-right matrix image lost workers budget plan contents left failed ran f
 
@@ -289,25 +399,22 @@ pub headline-of : (words : List (List ℕ)) (contents : List ℕ → List ℕ) (
     → ran.status ≡ status_by (words_refusal contents left (request_of words))
     → ((fault : Fault) → words_refusal contents left (request_of words) ≡ Some fault → HasLine ran.report_old ran.report_new failed (fault_line fault))
     → (ran.status ≡ 0 → (output : Output) × IsAnswer words contents left output × Wrote ran output.out output.report)
-    → (ran.status ≡ 0 → IfSome (request_of words) (λ request. HasCode request contents))
     → (ran.status ≡ 0 → IfSome (request_of words) (λ request. TookRight request contents left ran.totals_old ran.totals_new))
     → IfSome (request_of words) (λ request. Headline request contents left failed ran)
-headline-of words contents left failed ran status line answered coded took = go (request_of words) refl status line coded took
+headline-of words contents left failed ran status line answered took = go (request_of words) refl status line took
   where
     request-same : {a b : Request} → ◌≡◌ {A = Option Request} (Some a) (Some b) → a ≡ b
     request-same e = cc
 
     go : (o : Option Request) → request_of words ≡ o → ran.status ≡ status_by (words_refusal contents left o)
         → ((fault : Fault) → words_refusal contents left o ≡ Some fault → HasLine ran.report_old ran.report_new failed (fault_line fault))
-        → (ran.status ≡ 0 → IfSome o (λ request. HasCode request contents))
         → (ran.status ≡ 0 → IfSome o (λ request. TookRight request contents left ran.totals_old ran.totals_new)) → IfSome o (λ request. Headline request contents left failed ran)
-    go None e s l c t = tt
-    go (Some request) e s l c t = headline-right request contents left failed ran (record {
+    go None e s l t = tt
+    go (Some request) e s l t = headline-right request contents left failed ran (record {
       status = s;
       line = l;
       written = λ zero.
           let a = answered zero in
           (a.0, subst (λ (q : Request). IsAnswered q contents left a.0) (request-same (sym a.1.is ∙ e)) a.1.answered, a.2);
-      coded = c;
       took = t;
     })

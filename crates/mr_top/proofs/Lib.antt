@@ -3,6 +3,7 @@ pub mod Accepting
 pub mod Answering
 pub mod CheckSteps
 pub mod CodewordsOwn
+pub mod Converting
 pub mod EncodeSteps
 pub mod Eyes
 pub mod EyesRight
@@ -10,9 +11,12 @@ pub mod HeadLimits
 pub mod HeadlineRight
 pub mod ImageSteps
 pub mod Makers
-pub mod PlanChoice
 pub mod RebuildSteps
+pub mod RotationFaults
+pub mod Rotations
 pub mod RunAnswers
 pub mod TakenRight
 pub mod Wanting
+pub mod WholeImages
 pub mod WithScript
+pub mod Reports

@@ -18,6 +18,8 @@ use Rattle.mr_mend.specs.declared.asks.Ask.{Ask}
 use Rattle.mr_mend.specs.declared.rebuilding.Rebuilt.{Rebuilt}
 use Rattle.mr_mend.proofs.CopySets.{copied-survivors}
 use Rattle.mr_mend.proofs.Mendable.{mendable-from_valid}
+use Rattle.mr_image.specs.Rotated.{FitsCode}
+use Rattle.mr_plan.specs.PlanLists.{recipes_at}
 use Rattle.mr_plan.specs.Plans.{PlanParts, survivors}
 use Rattle.mr_top.specs.Encode.{or_head_fault}
 use Rattle.mr_steps.specs.Readings.{Reading}
@@ -71,17 +73,10 @@ fits-after (Some t) lent new bytes name name' duty (Ok l) same giving back sees 
     contents_or other (Some told) = told.contents
 fits-after old lent new bytes name name' duty (Err fault) same giving back sees fits = tt
 
--- ---- the plan
+-- ---- the survivors
 
-pub rows-are : (m : Code) (l : Layout) → IsMatrixCode m → l.devices ≡ m.devices → l.symbols_per_device ≡ m.symbols_per_device → length m.rows ≡ stripe_symbols l
-rows-are m l code d s = code.count ∙ sym (λ j. d j * s j)
-
--- a plan that is valid for the lost symbols of a code may be carried out on images of the code
-pub plan-mendable : (m : Code) (l : Layout) (lost : ℕ) (plan : PlanParts) → IsMatrixCode m → l.devices ≡ m.devices → l.symbols_per_device ≡ m.symbols_per_device
-    → lost < 2 ^ length m.rows → IsValidPlan m (survivors m lost) lost plan.set plan.recipes → IsMendable l plan
-plan-mendable m l lost plan code d s below valid =
-    let rows = rows-are m l code d s in
-    mendable-from_valid l m (survivors m lost) lost plan (subst (λ n. survivors m lost < 2 ^ n) rows (survivors-below m lost)) (subst (λ n. lost < 2 ^ n) rows below) valid
+pub rows-are : (m : Code) (l : Layout) → IsMatrixCode m → FitsCode l m → length m.rows ≡ stripe_symbols l
+rows-are m l code fits = code.count ∙ sym (λ j. fits.devices j * fits.symbols j)
 
 pub covers : (m : Code) (l : Layout) (lost : ℕ) → length m.rows ≡ stripe_symbols l → Covers l (survivors m lost) lost
 covers m l lost rows = record {
@@ -91,14 +86,6 @@ covers m l lost rows = record {
     | inr out ↦ inl (bit_at_minus (2 ^ length m.rows - 1) lost i ∙ omega (arith, out, bit_at_ones (length m.rows) i (omega (arith, rows, low))))
   ];
 }
-
--- the symbols that it does not rebuild are the survivors
-pub plan-copied : (m : Code) (l : Layout) (lost : ℕ) (plan : PlanParts) → IsMatrixCode m → l.devices ≡ m.devices → l.symbols_per_device ≡ m.symbols_per_device
-    → IsValidPlan m (survivors m lost) lost plan.set plan.recipes → copied_set l plan.recipes ≡ survivors m lost
-plan-copied m l lost plan code d s valid =
-    let rows = rows-are m l code d s in
-    copied-survivors l (survivors m lost) lost plan.recipes (omega (arith, code.shape.few_symbols, rows, code.count)) (covers m l lost rows)
-    (λ i survives. omega (arith, survives, bit_at_minus (2 ^ length m.rows - 1) lost i, bit_at-lt (2 ^ length m.rows - 1) i, bit_at-lt lost i)) valid.symbols
 
 -- ---- the eyes
 
@@ -111,16 +98,16 @@ held-lent view (Some t) lent between name duty result next giving reads untold =
     subst (λ o. IfSome o (λ told. 0 < told.lent)) (sym (reads (told_giving name duty t) giving).front.asked) (omega arith)
 
 -- what is mended and replied is of the file that all three eyes tell of
-pub mended-told : (told : Option Told) (mender reader copier : Option (List ℕ)) (name name' : List ℕ) (l : Layout) (plan : PlanParts) (asks : List Ask) (rebuilt : Rebuilt) → name' ≡ name
+pub mended-told : (told : Option Told) (mender reader copier : Option (List ℕ)) (name name' : List ℕ) (l : Layout) (plans : List PlanParts) (asks : List Ask) (rebuilt : Rebuilt) → name' ≡ name
     → mender ≡ option_map (λ t. t.contents name) told → reader ≡ option_map (λ t. t.contents name) told → copier ≡ option_map (λ t. t.contents name') told
-    → IfSome mender (λ bytes. reader ≡ Some bytes → copier ≡ Some bytes → rebuilt.image.items ≡ mended_file l plan.recipes bytes)
-    → IfSome mender (λ bytes. reader ≡ Some bytes → copier ≡ Some bytes → rebuilt.replies.items ≡ reply_bytes (mended l (every_stripe plan.recipes) (image_of l bytes)) asks)
-    → (x : List ℕ) → copier ≡ Some x → ◌≡◌ {A = Result Mended Fault} (Ok (mended_of l plan.recipes asks x)) (Ok (mended_view rebuilt))
-mended-told told mender reader copier name name' l plan asks rebuilt same sees sees_too sees' made replied x there =
+    → IfSome mender (λ bytes. reader ≡ Some bytes → copier ≡ Some bytes → rebuilt.image.items ≡ mended_file l (recipes_at plans) bytes)
+    → IfSome mender (λ bytes. reader ≡ Some bytes → copier ≡ Some bytes → rebuilt.replies.items ≡ reply_bytes (mended l (recipes_at plans) (image_of l bytes)) asks)
+    → (x : List ℕ) → copier ≡ Some x → ◌≡◌ {A = Result Mended Fault} (Ok (mended_of l plans asks x)) (Ok (mended_view rebuilt))
+mended-told told mender reader copier name name' l plans asks rebuilt same sees sees_too sees' made replied x there =
     let all : option_map (λ t. t.contents name) told ≡ Some x = ap (λ n. option_map (λ t. t.contents n) told) (sym same) ∙ sym sees' ∙ there in
-    let image : rebuilt.image.items ≡ mended_file l plan.recipes x =
-    subst (λ o. IfSome o (λ bytes. reader ≡ Some bytes → copier ≡ Some bytes → rebuilt.image.items ≡ mended_file l plan.recipes bytes)) (sees ∙ all) made (sees_too ∙ all) there in
-    let replies : rebuilt.replies.items ≡ reply_bytes (mended l (every_stripe plan.recipes) (image_of l x)) asks =
-    subst (λ o. IfSome o (λ bytes. reader ≡ Some bytes → copier ≡ Some bytes → rebuilt.replies.items ≡ reply_bytes (mended l (every_stripe plan.recipes) (image_of l bytes)) asks))
+    let image : rebuilt.image.items ≡ mended_file l (recipes_at plans) x =
+    subst (λ o. IfSome o (λ bytes. reader ≡ Some bytes → copier ≡ Some bytes → rebuilt.image.items ≡ mended_file l (recipes_at plans) bytes)) (sees ∙ all) made (sees_too ∙ all) there in
+    let replies : rebuilt.replies.items ≡ reply_bytes (mended l (recipes_at plans) (image_of l x)) asks =
+    subst (λ o. IfSome o (λ bytes. reader ≡ Some bytes → copier ≡ Some bytes → rebuilt.replies.items ≡ reply_bytes (mended l (recipes_at plans) (image_of l bytes)) asks))
     (sees ∙ all) replied (sees_too ∙ all) there in
     λ j. Ok (record { image = sym image j; replies = sym replies j })

@@ -13,8 +13,7 @@ use Rattle.mr_steps.specs.TextFiles.{matrix_file}
 use Rattle.mr_steps.proofs.Results.{ok-same}
 use Rattle.mr_top.specs.Commands.{answer}
 use Rattle.mr_top.specs.RebuildSteps.{image_read}
-use Rattle.mr_steps.specs.Texts.{IsCodeAt}
-use Rattle.mr_top.specs.Answered.{HasCode, IsAnswer, words_refusal}
+use Rattle.mr_top.specs.Answered.{IsAnswer, words_refusal}
 use Rattle.mr_top.specs.Eyes.{words_eyes}
 use Rattle.mr_steps.specs.Faults.{fault_line, fault_status}
 use Rattle.mr_top.specs.Answers.{Answers}
@@ -27,7 +26,7 @@ use Rattle.mr_steps.specs.Requests.{request_of}
 use Rattle.mr_steps.specs.Steps.{FollowsWith, HasReadCauses, IsForeseen, IsLeft, Reads}
 use Rattle.mr_top.specs.Taken.{TookRight}
 use Rattle.mr_steps.specs.declared.fault.Fault.{Fault}
-use Rattle.mr_steps.specs.declared.fault.Fault.TheVariants.{Usage, BadMatrix, TooLarge, NoDevice, BadImage, BadScript, Undetermined, BadPlanLine, BadPlan, ReadFault, WriteFault, Memory}
+use Rattle.mr_steps.specs.declared.fault.Fault.TheVariants.{Usage, BadMatrix, TooLarge, NoDevice, BadImage, BadScript, Undetermined, UndeterminedAt, BadPlanLine, BadPlan, ReadFault, WriteFault, Memory}
 use Rattle.mr_top.specs.declared.image_read.ImageRead.{ImageRead}
 use Rattle.mr_top.specs.declared.reply.Reply.{Reply}
 use Rattle.mr_top.proofs.Accepting.{matrix-is}
@@ -48,6 +47,7 @@ fault-cases (NoDevice device) = inl (foreseen-low 4 (omega arith))
 fault-cases (BadImage kind) = inl (foreseen-low 5 (omega arith))
 fault-cases (BadScript line) = inl (foreseen-low 6 (omega arith))
 fault-cases (Undetermined symbol) = inl (foreseen-low 7 (omega arith))
+fault-cases (UndeterminedAt rotation symbol) = inl (foreseen-low 7 (omega arith))
 fault-cases (BadPlanLine line) = inl (foreseen-low 8 (omega arith))
 fault-cases (BadPlan symbol why) = inl (foreseen-low 8 (omega arith))
 fault-cases ReadFault = inr (inl refl)
@@ -63,6 +63,7 @@ fault-positive (NoDevice device) = omega arith
 fault-positive (BadImage kind) = omega arith
 fault-positive (BadScript line) = omega arith
 fault-positive (Undetermined symbol) = omega arith
+fault-positive (UndeterminedAt rotation symbol) = omega arith
 fault-positive (BadPlanLine line) = omega arith
 fault-positive (BadPlan symbol why) = omega arith
 fault-positive ReadFault = omega arith
@@ -127,7 +128,6 @@ module _ (words : List (List ℕ)) (told : Told) (new : Option Told) (left : Lis
         (code ∙ sym (ap status_by (refused-by (at-code foreseen))))
         (λ f is. subst (λ x. HasLine report_old report_new report_failed (fault_line x)) (some-same (sym (refused-by (at-code foreseen)) ∙ is)) line)
         (λ zero. absurd (omega (arith, zero, code, fault-positive fault)))
-        (λ zero. absurd (omega (arith, zero, code, fault-positive fault)))
         (λ zero. absurd (omega (arith, zero, code, fault-positive fault)));
     asked = asks;
     totals = λ zero. absurd (omega (arith, zero, code, fault-positive fault));
@@ -154,7 +154,6 @@ run-err words (Some told) new t0 t1 script fault f0 f1 s0 s1 status out_old out_
 module _ (words : List (List ℕ)) (told : Told) (new : Option Told) (left : List ℕ) (output : Output) (status : ℕ)
     (out_old out_new report_old report_new : Option Held) (t0 t1 : Totals) (report_failed read_failed sink_failed : Type 0)
     (gives : (answer words told.contents left).result ≡ Ok output) (answer_is : IsAnswer words told.contents left output)
-    (coded : IfSome (request_of words) (λ request. HasCode request told.contents))
     (took : IfSome (request_of words) (λ request. TookRight request told.contents left t0 t1))
     (is : (status ≡ 0) ⊎ (status ≡ 10))
     (written : status ≡ 0 → Takes out_old out_new output.out × Takes report_old report_new output.report)
@@ -180,7 +179,7 @@ module _ (words : List (List ℕ)) (told : Told) (new : Option Told) (left : Lis
     headline = λ foreseen. headline-of words told.contents left report_failed (ran_of status out_old out_new report_old report_new t0 t1)
         (zero-unless foreseen.1 is ∙ sym (ap status_by none-refused))
         (λ f refuses. let clash : ◌≡◌ {A = Option Fault} None (Some f) = sym none-refused ∙ refuses in cc)
-        (λ zero. (output, answer_is, written zero)) (λ _. coded) (λ _. took);
+        (λ zero. (output, answer_is, written zero)) (λ _. took);
     asked = asks;
     totals = λ _. took;
   }
@@ -188,7 +187,6 @@ module _ (words : List (List ℕ)) (told : Told) (new : Option Told) (left : Lis
 pub run-ok : (words : List (List ℕ)) (old new : Option Told) (t0 t1 : Totals) (script : Option (List ℕ)) (reply : Reply) (status : ℕ)
     (out_old out_new report_old report_new : Option Held) (report_failed read_failed sink_failed : Type 0)
     → FollowsWith output_of old new t0 t1 script (Ok reply) (λ contents left. answer words contents left)
-    → IfSome old (λ told. IfSome (request_of words) (λ request. HasCode request told.contents))
     → (status ≡ 0) ⊎ (status ≡ 10)
     → (status ≡ 0 → Takes out_old out_new (output_of reply).out × Takes report_old report_new (output_of reply).report)
     → (status ≡ 10 → TakesFront out_old out_new (output_of reply).out)
@@ -197,14 +195,14 @@ pub run-ok : (words : List (List ℕ)) (old new : Option Told) (t0 t1 : Totals) 
     → IfSome old (λ told. (left : List ℕ) × IsLeft script left
     × Answers words told new left report_failed (read_failed ⊎ sink_failed)
     (ran_of status out_old out_new report_old report_new t0 t1))
-run-ok words None new t0 t1 script reply status out_old out_new report_old report_new report_failed read_failed sink_failed follows coded is written front reports failed = tt
-run-ok words (Some told) new t0 t1 script reply status out_old out_new report_old report_new report_failed read_failed sink_failed follows coded is written front reports failed = (
+run-ok words None new t0 t1 script reply status out_old out_new report_old report_new report_failed read_failed sink_failed follows is written front reports failed = tt
+run-ok words (Some told) new t0 t1 script reply status out_old out_new report_old report_new report_failed read_failed sink_failed follows is written front reports failed = (
   follows.left,
   follows.is,
   answers-ok words told new follows.left (output_of reply) status out_old out_new report_old report_new t0 t1
       report_failed read_failed sink_failed (follows.reads told refl).gives
-      (is-answer words told.contents follows.left (output_of reply) coded (follows.reads told refl).gives) coded
-      (words-took words told.contents follows.left (output_of reply) t0 t1 coded (follows.reads told refl).gives (follows.grows told refl)) is written front reports failed
+      (is-answer words told.contents follows.left (output_of reply) (follows.reads told refl).gives)
+      (words-took words told.contents follows.left (output_of reply) t0 t1 (follows.reads told refl).gives (follows.grows told refl)) is written front reports failed
       (asked-words words told new follows.left (follows.reads told refl).front),
 )
 
@@ -218,25 +216,3 @@ line-ok output status out_old out_new report_old report_new failed (inr ten) rep
     go : Reports 10 (Ok output) out_old out_new report_old report_new failed → IsReported status report_old report_new failed
     go (inl (fault, is, line)) = inl (fault, is.same ∙ sym ten, line)
     go (inr cut) = inr (ten, cut.rose)
-
--- ---- the matrix of the words
-
-pub if-ok : {X : Type 0} {P : Type 0} (result : Result X Fault) → P → IfOk result (λ _. P)
-if-ok (Ok x) p = p
-if-ok (Err fault) p = tt
-
--- a matrix that was read is the one that its file spells
-pub code-known : (old between : Option Told) (m : Code) (name : List ℕ) → IsMatrixCode m
-    → Reads (λ (x : Code). x) old between (Ok m) (λ contents. matrix_file contents name)
-    → IfSome old (λ told. IsCodeAt told.contents name)
-code-known None between m name code reads = tt
-code-known (Some told) between m name code reads = λ other spells.
-    subst (λ (x : Code). IsMatrixCode x) (ok-same (sym (reads told refl).gives ∙ matrix-is told.contents name ∙ spells)) code
-
-pub code-of-image : (old between : Option Told) (read : ImageRead) (words : RebuildWords) → IsMatrixCode read.matrix
-    → Reads (λ (r : ImageRead). r) old between (Ok read) (λ contents. image_read contents words)
-    → IfSome old (λ told. IsCodeAt told.contents words.matrix)
-code-of-image None between read words code reads = tt
-code-of-image (Some told) between read words code reads = λ other spells.
-    subst (λ (x : Code). IsMatrixCode x)
-    (ok-same (sym (has-read told.contents words read (reads told refl).gives).matrix_is ∙ matrix-is told.contents words.matrix ∙ spells)) code

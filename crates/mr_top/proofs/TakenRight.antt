@@ -1,12 +1,18 @@
 -- The bytes that the chains take, as numbers.
-use Rattle.std.proofs.Common.{arith, ◌≡◌, ◌<◌, ◌≤◌, ℕ, zero, suc, ◌+◌, ◌*◌, Bool, true, false, cond, not, List, [], ◌∷◌, ◌++◌, All, length, take, get_or, filter, Option, Some, None, IfSome, Result, Ok, refl, sym, ◌∙◌, ap}
+use Rattle.std.proofs.Common.{option_map, arith, ◌≡◌, ◌<◌, ◌≤◌, ℕ, zero, suc, ◌+◌, ◌*◌, Bool, true, false, cond, not, List, [], ◌∷◌, ◌++◌, All, length, take, get_or, filter, Option, Some, None, IfSome, Result, Ok, refl, sym, ◌∙◌, ap}
 use Rattle.std.proofs.Math.Seq.{take-length}
 use Rattle.std.proofs.lemmas.List.Elements.{filter_more}
 use Rattle.mr_bits.specs.Matrices.{IsMatrixCode}
 use Rattle.mr_bits.specs.declared.errors.What.{What}
 use Rattle.mr_bits.specs.declared.errors.What.TheVariants.{MatrixBytes, PlanBytes}
 use Rattle.mr_form.specs.MatrixText.{matrix_of}
-use Rattle.mr_image.specs.Images.{Layout, stripe_symbols}
+use Rattle.mr_choices.specs.Handed.{handed_file, handed_given, plan_file}
+use Rattle.mr_choices.specs.declared.chosen.ChosenPlan.{ChosenPlan}
+use Rattle.mr_image.specs.Images.{Layout, stripe_symbols, body_bytes}
+use Rattle.mr_image.specs.declared.limits.TheConstants.{HEAD_BYTES}
+use Rattle.mr_mend.specs.Rotations.{AreValidPlans}
+use Rattle.mr_plan.specs.PlanLists.{recipes_at}
+use Rattle.mr_plan.specs.Plans.{PlanParts}
 use Rattle.mr_io.specs.Counts.{counted}
 use Rattle.mr_io.specs.declared.duty.Duty.TheVariants.{Text, Head, Mend, Live, Copy}
 use Rattle.mr_io.specs.declared.totals.Totals.{Totals}
@@ -25,35 +31,36 @@ use Rattle.mr_io.specs.Growth.{added, bytes_of, grown, no_bytes}
 use Rattle.mr_io.proofs.Growth.{same_totals}
 use Rattle.mr_steps.specs.Refusals.{Gave, followed_by}
 use Rattle.mr_steps.proofs.Results.{gave-on}
-use Rattle.mr_top.specs.Rebuild.{rebuild_accepted, asks_given, handed_given, rebuild_of_parts}
+use Rattle.mr_top.specs.Rebuild.{layout_allowed, rebuild_accepted, asks_given, rebuild_of_parts, head_given}
 use Rattle.mr_steps.specs.Sinks.{Output}
 use Rattle.mr_steps.specs.TextFiles.{matrix_file, text_file}
-use Rattle.mr_steps.specs.Texts.{or_matrix_fault, IsCodeAt}
-use Rattle.mr_top.specs.Answered.{HasCode}
+use Rattle.mr_steps.specs.Texts.{or_matrix_fault, matrix_given}
 use Rattle.mr_top.specs.CheckSteps.{check_answer}
 use Rattle.mr_top.specs.Commands.{answer, command_answer}
 use Rattle.mr_top.specs.EncodeSteps.{encode_answer, encoded_file}
 use Rattle.mr_top.specs.Plan.{plan_given}
 use Rattle.mr_top.specs.PlanSteps.{plan_answer}
-use Rattle.mr_top.specs.RebuildSteps.{copied_image, handed_file, head_file, image_read, mended_image, plan_file, plan_for, read_as, rebuild_answer, rebuild_by, replied_image, copying_reads, mending_reads}
+use Rattle.mr_top.specs.RebuildSteps.{ImageParts, copied_image, head_file, image_file, image_read, mended_image, plans_for, parts_as, rebuild_answer, rebuild_by, replied_image, copying_reads, mending_reads}
 use Rattle.mr_top.specs.Check.{cost_given}
 use Rattle.mr_top.specs.Encode.{layout_given}
 use Rattle.mr_steps.specs.Losses.{targets_given}
 use Rattle.mr_steps.specs.Readings.{Reading, and_then, given, ◌>>=◌}
 use Rattle.mr_steps.specs.Requests.{or_usage, rebuild_words, request_of}
-use Rattle.mr_top.specs.Taken.{IsTaken, TookRight, plan_bytes, survivor_asks}
+use Rattle.mr_top.specs.Taken.{IsTaken, TookRight, plan_bytes, survivor_asks, whole_taken}
 use Rattle.mr_steps.specs.declared.fault.Fault.{Fault}
-use Rattle.mr_top.specs.declared.image_read.ImageRead.{ImageRead}
 use Rattle.mr_steps.specs.declared.request.Request.{Request}
-use Rattle.mr_steps.specs.declared.request.Request.TheVariants.{Plan, Check, Make, Encode, Rebuild}
+use Rattle.mr_steps.specs.declared.request.Request.TheVariants.{Check, Convert, Encode, Make, Plan, Rebuild}
 use Rattle.mr_top.proofs.AcceptedParts.{rebuild_of_head, rebuild_of_loss, rebuild_of_plan}
-use Rattle.mr_top.proofs.Accepting.{handed-is, matrix-is}
+use Rattle.mr_top.proofs.Accepting.{handed-is, image_file-is, matrix-is, head-is}
 use Rattle.mr_top.proofs.CheckSteps.{cost_next, lost_next, plan_next, valid_next}
-use Rattle.mr_top.proofs.CodewordsOwn.{HasRead, asks-inside, handed-valid, has-read, targets-loss, used-valid}
+use Rattle.mr_top.proofs.CodewordsOwn.{HasRead, asks-inside, given-code, given-valid, has-read, targets-loss}
 use Rattle.mr_top.proofs.EncodeSteps.{code_next, head_next, image_next}
-use Rattle.mr_top.proofs.HeadLimits.{head-limits}
+use Rattle.mr_top.proofs.HeadLimits.{IsImageGiven, image-given}
 use Rattle.mr_top.proofs.ImageSteps.{asks_next, handed_next, loss_next, matrix_next}
-use Rattle.mr_top.proofs.RebuildSteps.{plan-copied}
+use Rattle.mr_top.proofs.Rotations.{plans-copied, used-valid}
+use Rattle.mr_top.specs.WholeImages.{allowed_answer, body_answer, image_answer}
+use Rattle.mr_top.specs.Convert.{converted_output, first_accepted, first_version, convert_answer}
+use Rattle.mr_top.proofs.WholeImages.{body_next, layout_next, spelled_next}
 
 -- ---- chains that give a value
 
@@ -104,9 +111,17 @@ unfolding plan_file
 takes-handed contents None m targets = λ x e. refl
 takes-handed contents (Some plan) m targets = takes-given (text_file contents plan PlanBytes) (handed_given m targets) (text_taken contents plan) (takes-text contents plan PlanBytes)
 
-takes-head : (contents : List ℕ → List ℕ) (image : List ℕ) (m : Code) → TakesBytes (head_file contents image m) (added (bytes_of Head 32) no_bytes)
+abbrev head_taken : Totals
+head_taken = added (added (bytes_of Head HEAD_BYTES) no_bytes) no_bytes
+
+takes-bytes : (contents : List ℕ → List ℕ) (image : List ℕ) (m : Code) → TakesBytes (head_file contents image m) (added (bytes_of Head HEAD_BYTES) no_bytes)
 unfolding head_file
-takes-head contents image m = λ x e. refl
+takes-bytes contents image m = λ x e. refl
+
+takes-head : (contents : List ℕ → List ℕ) (image : List ℕ) (m : Code) (targets : ℕ) (handed : Option ChosenPlan) → TakesBytes (image_file contents image m targets handed) head_taken
+unfolding image_file
+takes-head contents image m targets handed =
+    takes-given (head_file contents image m) (layout_allowed m targets handed) (added (bytes_of Head HEAD_BYTES) no_bytes) (takes-bytes contents image m)
 
 takes-encoded : (contents : List ℕ → List ℕ) (payload : List ℕ) (m : Code) (l : Layout) → TakesBytes (encoded_file contents payload m l) (added (bytes_of Copy (length (contents payload))) no_bytes)
 unfolding encoded_file
@@ -143,23 +158,23 @@ encode-taken contents matrix payload stripes bytes output e =
 -- ---- a rebuild
 
 abbrev read_taken : (List ℕ → List ℕ) → RebuildWords → Totals
-read_taken contents words = added (matrix_taken contents words.matrix) (added no_bytes (added (handed_taken contents words.plan) (added (added (bytes_of Head 32) no_bytes) no_bytes)))
+read_taken contents words = added (matrix_taken contents words.matrix) (added no_bytes (added (handed_taken contents words.plan) (added head_taken no_bytes)))
 
 takes-image : (contents : List ℕ → List ℕ) (words : RebuildWords) → TakesBytes (image_read contents words) (read_taken contents words)
 unfolding image_read
 takes-image contents words =
-    takes-then (matrix_file contents words.matrix) (matrix_next contents words) (matrix_taken contents words.matrix) (added no_bytes (added (handed_taken contents words.plan) (added (added (bytes_of Head 32) no_bytes) no_bytes))) (takes-matrix contents words.matrix) (λ m.
-    takes-then (given (targets_given m words.lost)) (loss_next contents words m) no_bytes (added (handed_taken contents words.plan) (added (added (bytes_of Head 32) no_bytes) no_bytes)) (λ _ _. refl) (λ targets.
-    takes-then (handed_file contents words.plan m targets) (handed_next contents words m targets) (handed_taken contents words.plan) (added (added (bytes_of Head 32) no_bytes) no_bytes) (takes-handed contents words.plan m targets) (λ handed.
-    takes-given (head_file contents words.image m) (λ l. Ok (read_as m targets handed l)) (added (bytes_of Head 32) no_bytes) (takes-head contents words.image m))))
+    takes-then (matrix_file contents words.matrix) (matrix_next contents words) (matrix_taken contents words.matrix) (added no_bytes (added (handed_taken contents words.plan) (added head_taken no_bytes))) (takes-matrix contents words.matrix) (λ m.
+    takes-then (given (targets_given m words.lost)) (loss_next contents words m) no_bytes (added (handed_taken contents words.plan) (added head_taken no_bytes)) (λ _ _. refl) (λ targets.
+    takes-then (handed_file contents words.plan m targets) (handed_next contents words m targets) (handed_taken contents words.plan) (added head_taken no_bytes) (takes-handed contents words.plan m targets) (λ handed.
+    takes-given (image_file contents words.image m targets handed) (λ l. Ok (parts_as m targets handed l)) head_taken (takes-head contents words.image m targets handed))))
 
-abbrev mend_taken : RebuildWords → ImageRead → List Ask → Totals
+abbrev mend_taken : RebuildWords → ImageParts → List Ask → Totals
 mend_taken words read asks =
-    added (added (bytes_of Mend (mending_reads read.head (plan_for words read).plan))
-    (added (bytes_of Live (live_reads read.head (plan_for words read).plan.recipes asks))
-    (added (bytes_of Copy (copying_reads read.head (survivors read.matrix read.problem.targets))) no_bytes))) no_bytes
+    added (added (bytes_of Mend (mending_reads read.head (plans_for words read)))
+    (added (bytes_of Live (live_reads read.head (recipes_at (plans_for words read)) asks))
+    (added (bytes_of Copy (copying_reads read.head (survivors read.matrix read.lost))) no_bytes))) no_bytes
 
-takes-mend : (contents : List ℕ → List ℕ) (words : RebuildWords) (read : ImageRead) (asks : List Ask) → (rebuild_by contents words read asks).taken ≡ mend_taken words read asks
+takes-mend : (contents : List ℕ → List ℕ) (words : RebuildWords) (read : ImageParts) (asks : List Ask) → (rebuild_by contents words read asks).taken ≡ mend_taken words read asks
 unfolding rebuild_by mended_image replied_image copied_image
 takes-mend contents words read asks = refl
 
@@ -190,46 +205,49 @@ copied-has : (l : Layout) (recipes : List Recipe) (i : ℕ) → i < stripe_symbo
 unfolding copied_set
 copied-has l recipes i low = has-below (stripe_symbols l) (λ i. not (has_recipe recipes i)) i low
 
--- those without a recipe are the survivors
-live-survives : (l : Layout) (recipes : List Recipe) (set : ℕ) (asks : List Ask) → copied_set l recipes ≡ set → All (IsInRange l) asks
-    → live_reads l recipes asks ≡ length (filter (λ ask. has set ask.symbol) asks) * l.symbol_bytes
+abbrev no_ask : Ask
+no_ask = record { stripe = 0; symbol = 0 }
+
+-- those without a recipe in their stripe are the survivors
+live-survives : (l : Layout) (plans : List PlanParts) (set : ℕ) (asks : List Ask) → ((s : ℕ) → copied_set l (recipes_at plans s) ≡ set) → All (IsInRange l) asks
+    → live_reads l (recipes_at plans) asks ≡ length (filter (λ ask. has set ask.symbol) asks) * l.symbol_bytes
 unfolding live_reads
-live-survives l recipes set asks same inside =
+live-survives l plans set asks same inside =
     ap (λ xs. length xs * l.symbol_bytes)
-    (filter-same (λ ask. is_live recipes ask) (λ ask. has set ask.symbol) asks (record { stripe = 0; symbol = 0 }) (λ k low.
-    sym (copied-has l recipes (get_or asks k (record { stripe = 0; symbol = 0 })).symbol (inside k (record { stripe = 0; symbol = 0 }) low).symbol)
-    ∙ ap (λ s. has s (get_or asks k (record { stripe = 0; symbol = 0 })).symbol) same))
+    (filter-same (λ ask. is_live (recipes_at plans) ask) (λ ask. has set ask.symbol) asks no_ask (λ k low.
+    sym (copied-has l (recipes_at plans (get_or asks k no_ask).stripe) (get_or asks k no_ask).symbol (inside k no_ask low).symbol)
+    ∙ ap (λ s. has s (get_or asks k no_ask).symbol) (same (get_or asks k no_ask).stripe)))
 
 handed-bytes : (contents : List ℕ → List ℕ) (plan : Option (List ℕ)) → handed_taken contents plan ≡ bytes_of Text (plan_bytes contents plan)
 handed-bytes contents None = refl
 handed-bytes contents (Some plan) = same_totals _ _ _ _ _ _ _ _ _ _ (omega arith) (omega arith) (omega arith) (omega arith) (omega arith)
 
 -- what a rebuild takes of what it read
-abbrev numbers : (List ℕ → List ℕ) → RebuildWords → ImageRead → List Ask → Totals
+abbrev numbers : (List ℕ → List ℕ) → RebuildWords → ImageParts → List Ask → Totals
 numbers contents words read asks = record {
   text = length (contents words.matrix) + plan_bytes contents words.plan;
-  head = 32;
-  mend = mending_reads read.head (plan_for words read).plan;
-  live = live_reads read.head (plan_for words read).plan.recipes asks;
-  copy = copying_reads read.head (survivors read.matrix read.problem.targets);
+  head = HEAD_BYTES;
+  mend = mending_reads read.head (plans_for words read);
+  live = live_reads read.head (recipes_at (plans_for words read)) asks;
+  copy = copying_reads read.head (survivors read.matrix read.lost);
 }
 
-numbers-are : (contents : List ℕ → List ℕ) (words : RebuildWords) (read : ImageRead) (asks : List Ask)
+numbers-are : (contents : List ℕ → List ℕ) (words : RebuildWords) (read : ImageParts) (asks : List Ask)
     → added (read_taken contents words) (added no_bytes (mend_taken words read asks)) ≡ numbers contents words read asks
 numbers-are contents words read asks =
-    ap (λ t. added (added (matrix_taken contents words.matrix) (added no_bytes (added t (added (added (bytes_of Head 32) no_bytes) no_bytes)))) (added no_bytes (mend_taken words read asks)))
+    ap (λ t. added (added (matrix_taken contents words.matrix) (added no_bytes (added t (added head_taken no_bytes)))) (added no_bytes (mend_taken words read asks)))
     (handed-bytes contents words.plan)
     ∙ same_totals _ _ _ _ _ _ _ _ _ _ (omega arith) (omega arith) (omega arith) (omega arith) (omega arith)
 
-module _ (contents : List ℕ → List ℕ) (left : List ℕ) (words : RebuildWords) (read : ImageRead) (asks : List Ask) (code : IsMatrixCode read.matrix)
+module _ (contents : List ℕ → List ℕ) (left : List ℕ) (words : RebuildWords) (read : ImageParts) (asks : List Ask)
     (reads : (image_read contents words).result ≡ Ok read) (has_read : HasRead contents words read) (asking : asks_given read.head left ≡ Ok asks) where
-  is-accepted : rebuild_accepted contents left words ≡ Ok (rebuild_of_parts contents words read.matrix read.problem.targets read.handed read.head asks)
+  is-accepted : rebuild_accepted contents left words ≡ Ok (rebuild_of_parts contents words read.matrix read.lost read.handed read.head asks)
   is-accepted =
       ap (λ s. followed_by s (λ m. followed_by (targets_given m words.lost) (rebuild_of_loss contents left words m))) (sym (matrix-is contents words.matrix) ∙ has_read.matrix_is)
       ∙ ap (λ s. followed_by s (rebuild_of_loss contents left words read.matrix)) has_read.loss_is
-      ∙ ap (λ s. followed_by s (rebuild_of_plan contents left words read.matrix read.problem.targets)) (sym (handed-is contents words.plan read.matrix read.problem.targets) ∙ has_read.handed_is)
-      ∙ ap (λ s. followed_by s (rebuild_of_head contents left words read.matrix read.problem.targets read.handed)) has_read.head_is
-      ∙ ap (λ s. followed_by s (λ asks. Ok (rebuild_of_parts contents words read.matrix read.problem.targets read.handed read.head asks))) asking
+      ∙ ap (λ s. followed_by s (rebuild_of_plan contents left words read.matrix read.lost)) (sym (handed-is contents words.plan read.matrix read.lost) ∙ has_read.handed_is)
+      ∙ ap (λ s. followed_by s (rebuild_of_head contents left words read.matrix read.lost read.handed)) (sym (image_file-is contents words.image read.matrix read.lost read.handed) ∙ has_read.image_is)
+      ∙ ap (λ s. followed_by s (λ asks. Ok (rebuild_of_parts contents words read.matrix read.lost read.handed read.head asks))) asking
 
   taken : (rebuild_answer contents left words).taken ≡ numbers contents words read asks
   unfolding rebuild_answer
@@ -240,18 +258,26 @@ module _ (contents : List ℕ → List ℕ) (left : List ℕ) (words : RebuildWo
       ∙ ap (added no_bytes) (takes-mend contents words read asks))
       ∙ numbers-are contents words read asks
 
-  live-are : live_reads read.head (plan_for words read).plan.recipes asks
-      ≡ length (survivor_asks (rebuild_of_parts contents words read.matrix read.problem.targets read.handed read.head asks)) * read.head.symbol_bytes
+  code : IsMatrixCode read.matrix
+  code = given-code (contents words.matrix) read.matrix (sym (matrix-is contents words.matrix) ∙ has_read.matrix_is)
+
+  image : IsImageGiven read.matrix read.lost read.handed (contents words.image) read.head
+  image = image-given read.matrix read.lost read.handed (contents words.image) read.head code
+      (sym (image_file-is contents words.image read.matrix read.lost read.handed) ∙ has_read.image_is)
+
+  valid : AreValidPlans read.head read.matrix read.lost (plans_for words read)
+  valid = used-valid read.head read.matrix read.lost code image.limits.fits (targets-loss read.matrix words.lost read.lost code has_read.loss_is).targets_below
+      image.determined words.budget read.handed (given-valid (option_map contents words.plan) read.matrix read.lost read.handed
+      (sym (handed-is contents words.plan read.matrix read.lost) ∙ has_read.handed_is)) image.version
+
+  live-are : live_reads read.head (recipes_at (plans_for words read)) asks
+      ≡ length (survivor_asks (rebuild_of_parts contents words read.matrix read.lost read.handed read.head asks)) * read.head.symbol_bytes
   live-are =
-      let limits = head-limits read.matrix (contents words.image) read.head code has_read.head_is in
-      let valid = used-valid read.matrix read.problem.targets words.budget read.handed (targets-loss read.matrix words.lost read.problem.targets code has_read.loss_is)
-      (handed-valid contents words.plan read.matrix read.problem.targets read.handed has_read.handed_is) in
-      live-survives read.head (plan_for words read).plan.recipes (survivors read.matrix read.problem.targets) asks
-      (plan-copied read.matrix read.head read.problem.targets (plan_for words read).plan code limits.devices limits.symbols valid)
-      (asks-inside read.head left asks asking)
+      live-survives read.head (plans_for words read) (survivors read.matrix read.lost) asks
+      (plans-copied read.head read.matrix read.lost (plans_for words read) code image.limits.fits valid) (asks-inside read.head left asks asking)
 
   is-taken : (old new : Totals) → new ≡ grown old (rebuild_answer contents left words).taken
-      → IsTaken contents words (rebuild_of_parts contents words read.matrix read.problem.targets read.handed read.head asks) old new
+      → IsTaken contents words (rebuild_of_parts contents words read.matrix read.lost read.handed read.head asks) old new
   is-taken old new h =
       let all : new ≡ grown old (numbers contents words read asks) = h ∙ ap (grown old) taken in
       record {
@@ -262,43 +288,89 @@ module _ (contents : List ℕ → List ℕ) (left : List ℕ) (words : RebuildWo
         copy = ap (λ (t : Totals). t.copy) all;
       }
 
-rebuild-took : (contents : List ℕ → List ℕ) (left : List ℕ) (words : RebuildWords) (output : Output) (old new : Totals) → IsCodeAt contents words.matrix
+rebuild-took : (contents : List ℕ → List ℕ) (left : List ℕ) (words : RebuildWords) (output : Output) (old new : Totals)
     → (rebuild_answer contents left words).result ≡ Ok output → new ≡ grown old (rebuild_answer contents left words).taken
     → Gave (rebuild_accepted contents left words) (λ r. IsTaken contents words r old new)
 unfolding rebuild_answer
-rebuild-took contents left words output old new coded e h =
+rebuild-took contents left words output old new e h =
     let g = gave-on (image_read contents words) (asks_next contents left words) output e in
     let k = gave-on (given (asks_given g.value.head left)) (rebuild_by contents words g.value) output g.holds in
     let hr : HasRead contents words g.value = has-read contents words g.value g.is in
-    let code : IsMatrixCode g.value.matrix = coded g.value.matrix (sym (matrix-is contents words.matrix) ∙ hr.matrix_is) in
     record {
-      value = rebuild_of_parts contents words g.value.matrix g.value.problem.targets g.value.handed g.value.head k.value;
-      is = is-accepted contents left words g.value k.value code g.is hr k.is;
-      holds = is-taken contents left words g.value k.value code g.is hr k.is old new h;
+      value = rebuild_of_parts contents words g.value.matrix g.value.lost g.value.handed g.value.head k.value;
+      is = is-accepted contents left words g.value k.value g.is hr k.is;
+      holds = is-taken contents left words g.value k.value g.is hr k.is old new h;
     }
 
-pub took-right : (request : Request) (contents : List ℕ → List ℕ) (left : List ℕ) (output : Output) (old new : Totals) → HasCode request contents
+-- ---- commands that read an image file whole
+
+module _ (allowed : Layout → Result Layout Fault) (written : Code → Layout → List ℕ → Output) (contents : List ℕ → List ℕ) (matrix image : List ℕ) where
+  body-taken : (m : Code) (taken : Layout) → (body_next written contents image m taken).taken ≡ added (bytes_of Copy (body_bytes taken)) no_bytes
+  unfolding body_answer
+  body-taken m taken = refl
+
+  layout-taken : (m : Code) (l : Layout) (output : Output) → (layout_next allowed written contents image m l).result ≡ Ok output
+      → Gave (allowed l) (λ taken. (layout_next allowed written contents image m l).taken ≡ added no_bytes (added (bytes_of Copy (body_bytes taken)) no_bytes))
+  unfolding allowed_answer
+  layout-taken m l output e =
+      let g = gave-on (given (allowed l)) (body_next written contents image m) output e in
+      record {
+        value = g.value;
+        is = g.is;
+        holds = taken-next (given (allowed l)) (body_next written contents image m) g.value g.is ∙ ap (added no_bytes) (body-taken m g.value);
+      }
+
+  whole-took : (output : Output) → (image_answer allowed written contents matrix image).result ≡ Ok output
+      → Gave (followed_by (matrix_given (contents matrix)) (λ m. followed_by (head_given m (contents image)) allowed))
+      (λ l. (image_answer allowed written contents matrix image).taken ≡ whole_taken (length (contents matrix)) l)
+  unfolding image_answer
+  whole-took output e =
+      let g = gave-on (matrix_file contents matrix) (spelled_next allowed written contents image) output e in
+      let h = gave-on (head_file contents image g.value) (layout_next allowed written contents image g.value) output g.holds in
+      let k = layout-taken g.value h.value output h.holds in
+      record {
+        value = k.value;
+        is = ap (λ r. followed_by r (λ m. followed_by (head_given m (contents image)) allowed)) (sym (matrix-is contents matrix) ∙ g.is)
+            ∙ ap (λ r. followed_by r allowed) (sym (head-is contents image g.value) ∙ h.is) ∙ k.is;
+        holds = taken-next (matrix_file contents matrix) (spelled_next allowed written contents image) g.value g.is
+            ∙ ap (λ t. added t (spelled_next allowed written contents image g.value).taken) (takes-matrix contents matrix g.value g.is)
+            ∙ ap (added (matrix_taken contents matrix))
+            (taken-next (head_file contents image g.value) (layout_next allowed written contents image g.value) h.value h.is
+            ∙ ap (λ t. added t (layout_next allowed written contents image g.value h.value).taken) (takes-bytes contents image g.value h.value h.is)
+            ∙ ap (added (added (bytes_of Head HEAD_BYTES) no_bytes)) k.holds)
+            ∙ same_totals _ _ _ _ _ _ _ _ _ _ (omega arith) (omega arith) (omega arith) (omega arith) (omega arith);
+      }
+
+-- totals that grew by what a chain took
+grew-gave : {X : Type 0} (r : Result X Fault) (f : X → Totals) (taken old new : Totals) → new ≡ grown old taken → Gave r (λ x. taken ≡ f x)
+    → Gave r (λ x. new ≡ grown old (f x))
+grew-gave r f taken old new h g = record { value = g.value; is = g.is; holds = h ∙ ap (grown old) g.holds }
+
+pub took-right : (request : Request) (contents : List ℕ → List ℕ) (left : List ℕ) (output : Output) (old new : Totals)
     → (command_answer contents left request).result ≡ Ok output → new ≡ grown old (command_answer contents left request).taken
     → TookRight request contents left old new
-took-right (Plan matrix lost workers budget) contents left output old new coded e h = h ∙ ap (grown old) (plan-taken contents matrix lost budget output e)
-took-right (Check matrix lost plan) contents left output old new coded e h = h ∙ ap (grown old) (check-taken contents matrix lost plan output e)
-took-right (Make code p) contents left output old new coded e h = h
-took-right (Encode matrix payload stripes bytes) contents left output old new coded e h = h ∙ ap (grown old) (encode-taken contents matrix payload stripes bytes output e)
-took-right (Rebuild matrix image lost workers budget plan) contents left output old new coded e h =
-    rebuild-took contents left (rebuild_words matrix image lost workers budget plan) output old new coded e h
+took-right (Plan matrix lost workers budget) contents left output old new e h = h ∙ ap (grown old) (plan-taken contents matrix lost budget output e)
+took-right (Check matrix lost plan) contents left output old new e h = h ∙ ap (grown old) (check-taken contents matrix lost plan output e)
+took-right (Make code p) contents left output old new e h = h
+took-right (Encode matrix payload stripes bytes) contents left output old new e h = h ∙ ap (grown old) (encode-taken contents matrix payload stripes bytes output e)
+took-right (Rebuild matrix image lost workers budget plan) contents left output old new e h =
+    rebuild-took contents left (rebuild_words matrix image lost workers budget plan) output old new e h
+took-right (Convert matrix image) contents left output old new e h =
+    grew-gave (first_accepted contents matrix image) (whole_taken (length (contents matrix))) (convert_answer contents matrix image).taken old new h
+    (whole-took first_version (λ _. converted_output) contents matrix image output e)
 
 -- the totals of a run that answered its words
 pub words-took : (words : List (List ℕ)) (contents : List ℕ → List ℕ) (left : List ℕ) (output : Output) (old new : Totals)
-    → IfSome (request_of words) (λ request. HasCode request contents) → (answer words contents left).result ≡ Ok output
+    → (answer words contents left).result ≡ Ok output
     → new ≡ grown old (answer words contents left).taken → IfSome (request_of words) (λ request. TookRight request contents left old new)
 unfolding answer
 words-took words contents left output old new = go (request_of words)
   where
-    go : (o : Option Request) → IfSome o (λ request. HasCode request contents)
+    go : (o : Option Request)
         → (and_then [] no_bytes (or_usage o) (command_answer contents left)).result ≡ Ok output
         → new ≡ grown old (and_then [] no_bytes (or_usage o) (command_answer contents left)).taken
         → IfSome o (λ request. TookRight request contents left old new)
-    go None coded e h = tt
-    go (Some request) coded e h =
-        took-right request contents left output old new coded e
+    go None e h = tt
+    go (Some request) e h =
+        took-right request contents left output old new e
         (h ∙ ap (grown old) (same_totals _ _ _ _ _ _ _ _ _ _ (omega arith) (omega arith) (omega arith) (omega arith) (omega arith)))

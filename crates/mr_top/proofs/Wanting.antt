@@ -1,4 +1,5 @@
 -- The plan that is used is the one that is wanted, and a loss that is not determined is refused.
+use Rattle.std.specs.Int.{bit_at}
 use Rattle.std.proofs.Common.{arith, ◌≡◌, ◌<◌, ◌≤◌, ℕ, Bool, true, false, not, List, Option, Some, None, Result, Ok, Err, refl, sym, ◌∙◌, ap, subst}
 use Rattle.mr_bits.specs.declared.errors.What.TheVariants.{PlanBytes}
 use Rattle.mr_eq.specs.Laws.{IsFirstSmallest}
@@ -11,15 +12,14 @@ use Rattle.mr_model.proofs.Finding.{FindsMember, find_member-finds, find_member-
 use Rattle.mr_plan.specs.Plans.{PlanParts, survivors}
 use Rattle.mr_plan.specs.declared.kinds.Kind.TheVariants.{Least as IsLeast, Spent as IsSpent, Given as IsGiven}
 use Rattle.mr_steps.proofs.Results.{gave-then}
-use Rattle.mr_top.specs.Rebuild.{plan_file_given, as_given, handed_given, plan_used}
+use Rattle.mr_choices.specs.Handed.{as_given, handed_given, plan_file_given, sound_given}
+use Rattle.mr_choices.specs.Chosen.{chosen_by, line_by, plan_by}
+use Rattle.mr_choices.specs.declared.chosen.ChosenPlan.{ChosenPlan}
 use Rattle.mr_steps.specs.Texts.{within_limit}
-use Rattle.mr_top.specs.Check.{sound_given}
 use Rattle.mr_top.specs.Headline.{IsLeastUndetermined, IsPlanWanted}
 use Rattle.mr_steps.specs.Losses.{determined_given, loss_of, lost_given, symbols_of_devices, targets_given, unless_symbol}
-use Rattle.mr_top.specs.Plan.{chosen_by, line_by, plan_by}
 use Rattle.mr_steps.specs.Refusals.{followed_by}
 use Rattle.mr_steps.specs.declared.choice_line.ChoiceLine.TheVariants.{Least as LeastLine, Spent as SpentLine, Given as GivenLine}
-use Rattle.mr_top.specs.declared.chosen.ChosenPlan.{ChosenPlan}
 use Rattle.mr_steps.specs.declared.fault.Fault.{Fault}
 use Rattle.mr_steps.specs.declared.fault.Fault.TheVariants.{Undetermined}
 use Rattle.mr_top.proofs.CodewordsOwn.{Valid, chosen-valid, sound-valid}
@@ -68,8 +68,8 @@ module _ (m : Code) (targets budget : ℕ) (loss : IsLoss (loss_of m targets)) w
 module _ (m : Code) (targets budget : ℕ) (bytes : List ℕ) (chosen : ChosenPlan)
     (reads : plan_file_given m targets (Some bytes) ≡ Ok (Some chosen)) (sound : PlanParts) (text : List ℕ)
     (is : sound_given m targets text ≡ Ok sound) (same : as_given m sound ≡ chosen) where
-  given-wanted : IsPlanWanted m targets budget (Some bytes) chosen.plan chosen.line
-  given-wanted = record {
+  sound-wanted : IsPlanWanted m targets budget (Some bytes) chosen.plan chosen.line
+  sound-wanted = record {
     valid = subst (λ (c : ChosenPlan). Valid m targets c.plan) same (sound-valid m targets text sound is);
     least = λ e within. let clash : ◌≡◌ {A = Option (List ℕ)} (Some bytes) None = e in cc;
     spent = λ e past. let clash : ◌≡◌ {A = Option (List ℕ)} (Some bytes) None = e in cc;
@@ -83,30 +83,34 @@ module _ (m : Code) (targets budget : ℕ) (bytes : List ℕ) (chosen : ChosenPl
 handed-is : {a b : ChosenPlan} → ◌≡◌ {A = Result (Option ChosenPlan) Fault} (Ok (Some a)) (Ok (Some b)) → a ≡ b
 handed-is e = cc
 
--- the plan that is used is wanted
-pub used-wanted : (m : Code) (targets budget : ℕ) (plan_file : Option (List ℕ)) (handed : Option ChosenPlan) → IsLoss (loss_of m targets)
-    → plan_file_given m targets plan_file ≡ Ok handed
-    → IsPlanWanted m targets budget plan_file (plan_used m targets budget handed).plan (plan_used m targets budget handed).line
-used-wanted m targets budget None None loss e = plan-wanted m targets budget loss
-used-wanted m targets budget None (Some chosen) loss e =
-    let clash : ◌≡◌ {A = Result (Option ChosenPlan) Fault} (Ok None) (Ok (Some chosen)) = e in cc
-used-wanted m targets budget (Some bytes) None loss e =
+-- the plan of a plan file is wanted
+pub given-wanted : (m : Code) (targets budget : ℕ) (bytes : List ℕ) (chosen : ChosenPlan) → plan_file_given m targets (Some bytes) ≡ Ok (Some chosen)
+    → IsPlanWanted m targets budget (Some bytes) chosen.plan chosen.line
+given-wanted m targets budget bytes chosen e =
+    let a = gave-then (within_limit PlanBytes bytes) (handed_given m targets) (Some chosen) e in
+    let b = gave-then (sound_given m targets a.value) (λ plan. Ok (Some (as_given m plan))) (Some chosen) a.holds in
+    sound-wanted m targets budget bytes chosen e b.value a.value b.is (handed-is b.holds)
+
+-- a plan is handed in exactly where a plan file is named
+pub none-handed : (m : Code) (targets : ℕ) (chosen : ChosenPlan) → plan_file_given m targets None ≡ Ok (Some chosen) → ⊥
+none-handed m targets chosen e = let clash : ◌≡◌ {A = Result (Option ChosenPlan) Fault} (Ok None) (Ok (Some chosen)) = e in cc
+
+pub some-handed : (m : Code) (targets : ℕ) (bytes : List ℕ) → plan_file_given m targets (Some bytes) ≡ Ok None → ⊥
+some-handed m targets bytes e =
     let a = gave-then (within_limit PlanBytes bytes) (handed_given m targets) None e in
     let b = gave-then (sound_given m targets a.value) (λ plan. Ok (Some (as_given m plan))) None a.holds in
     let clash : ◌≡◌ {A = Result (Option ChosenPlan) Fault} (Ok (Some (as_given m b.value))) (Ok None) = b.holds in cc
-used-wanted m targets budget (Some bytes) (Some chosen) loss e =
-    let a = gave-then (within_limit PlanBytes bytes) (handed_given m targets) (Some chosen) e in
-    let b = gave-then (sound_given m targets a.value) (λ plan. Ok (Some (as_given m plan))) (Some chosen) a.holds in
-    given-wanted m targets budget bytes chosen e b.value a.value b.is (handed-is b.holds)
 
 -- ---- a loss that is not determined
 
--- the least lost symbol that is not determined, and where there is none
-record IsFound (m : Code) (lost : ℕ) (o : Option ℕ) : Type 0 where
-  some : (t : ℕ) → o ≡ Some t → IsLeastUndetermined m lost t
-  all : (t : ℕ) → IsLeastUndetermined m lost t → o ≡ Some t
+-- The least lost symbol that is not determined, and where there is none.
+pub record IsFound (m : Code) (lost : ℕ) (o : Option ℕ) : Type 0 where
+  pub some : (t : ℕ) → o ≡ Some t → IsLeastUndetermined m lost t
+  pub all : (t : ℕ) → IsLeastUndetermined m lost t → o ≡ Some t
+  pub none : o ≡ None → (i : ℕ) → bit_at lost i ≡ 1 → has_equation m (survivors m lost) i ≡ true
+  pub each : ((i : ℕ) → bit_at lost i ≡ 1 → has_equation m (survivors m lost) i ≡ true) → o ≡ None
 
-undetermined-found : (m : Code) (lost : ℕ) → IsFound m lost (undetermined m (survivors m lost) lost)
+pub undetermined-found : (m : Code) (lost : ℕ) → IsFound m lost (undetermined m (survivors m lost) lost)
 undetermined-found m lost = record {
   some = λ t e.
       let first : FindsMember lost (λ t. not (has_equation m (survivors m lost) t)) (Some t) =
@@ -122,6 +126,12 @@ undetermined-found m lost = record {
     passes = ap not h.none;
     least = λ i low member. ap not (h.least i low member);
   });
+  none = λ e i member.
+      let none : FindsMember lost (λ t. not (has_equation m (survivors m lost) t)) None =
+      subst (λ o. FindsMember lost (λ t. not (has_equation m (survivors m lost) t)) o) e
+      (find_member-finds lost (λ t. not (has_equation m (survivors m lost) t))) in
+      not-false-is (has_equation m (survivors m lost) i) (none i member);
+  each = λ h. find_member-is lost (λ t. not (has_equation m (survivors m lost) t)) None (λ i member. ap not (h i member));
 }
   where
     not-true-is : (b : Bool) → not b ≡ true → b ≡ false
@@ -145,9 +155,14 @@ targets-refused m lost devices t e h =
     targets-are m lost devices e
     ∙ ap (λ o. unless_symbol o (symbols_of_devices m devices)) ((undetermined-found m (symbols_of_devices m devices)).all t h)
 
+-- symbols that are determined are not
+pub targets-determined : (m : Code) (lost : List ℕ) (devices : ℕ) → lost_given m.devices lost ≡ Ok devices
+    → undetermined m (survivors m (symbols_of_devices m devices)) (symbols_of_devices m devices) ≡ None → targets_given m lost ≡ Ok (symbols_of_devices m devices)
+targets-determined m lost devices e none = targets-are m lost devices e ∙ ap (λ o. unless_symbol o (symbols_of_devices m devices)) none
+
 -- The lost symbols are determined, or the least that is not is refused.
 pub data TargetsCases (m : Code) (lost : List ℕ) (set : ℕ) : Type 0 where
-  Determined : targets_given m lost ≡ Ok set → TargetsCases m lost set
+  Determined : undetermined m (survivors m set) set ≡ None → targets_given m lost ≡ Ok set → TargetsCases m lost set
   Refused : (t : ℕ) → IsLeastUndetermined m set t → TargetsCases m lost set
 
 pub targets-cases : (m : Code) (lost : List ℕ) (devices : ℕ) → lost_given m.devices lost ≡ Ok devices → TargetsCases m lost (symbols_of_devices m devices)
@@ -155,5 +170,5 @@ targets-cases m lost devices e =
     go (undetermined m (survivors m (symbols_of_devices m devices)) (symbols_of_devices m devices)) refl
   where
     go : (o : Option ℕ) → undetermined m (survivors m (symbols_of_devices m devices)) (symbols_of_devices m devices) ≡ o → TargetsCases m lost (symbols_of_devices m devices)
-    go None none = Determined (targets-are m lost devices e ∙ ap (λ o. unless_symbol o (symbols_of_devices m devices)) none)
+    go None none = Determined none (targets-determined m lost devices e none)
     go (Some t) some = Refused t ((undetermined-found m (symbols_of_devices m devices)).some t some)

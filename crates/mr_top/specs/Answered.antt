@@ -1,15 +1,15 @@
 -- The answer of a request, as a relation between what it accepts and what is written.
-use Rattle.std.specs.Prelude.{Bool, List, None, Ok, Option, Some, false, is_ok, true, ℕ, ⊤, ◌≡◌}
+use Rattle.std.specs.Prelude.{Bool, List, None, Ok, Option, Some, false, is_ok, true, ℕ, ◌≡◌}
 use Rattle.mr_steps.specs.Refusals.{Gave, refusal_of}
 use Rattle.mr_steps.specs.Requests.{rebuild_words, request_of}
 use Rattle.mr_steps.specs.Sinks.{Output}
-use Rattle.mr_steps.specs.Texts.{IsCodeAt}
 use Rattle.mr_steps.specs.declared.fault.Fault.{Fault}
 use Rattle.mr_steps.specs.declared.fault.Fault.TheVariants.{Usage}
 use Rattle.mr_steps.specs.declared.request.Request.{Request}
-use Rattle.mr_steps.specs.declared.request.Request.TheVariants.{Check, Encode, Make, Plan, Rebuild}
+use Rattle.mr_steps.specs.declared.request.Request.TheVariants.{Check, Convert, Encode, Make, Plan, Rebuild}
 use Rattle.mr_top.specs.Check.{check_accepted, check_written}
-use Rattle.mr_top.specs.Encode.{encode_accepted, encode_written}
+use Rattle.mr_top.specs.Convert.{convert_accepted}
+use Rattle.mr_top.specs.Encode.{encode_accepted, image_written}
 use Rattle.mr_top.specs.Make.{make_given}
 use Rattle.mr_top.specs.Plan.{plan_accepted, plan_written}
 use Rattle.mr_top.specs.Rebuild.{IsRebuilt, image_accepted, rebuild_accepted}
@@ -24,10 +24,12 @@ IsAnswered (Check matrix lost plan) contents left output =
 IsAnswered (Make code p) contents left output = make_given code p ≡ Ok output
 IsAnswered (Encode matrix payload stripes bytes) contents left output =
     Gave (encode_accepted contents matrix payload stripes bytes)
-    (λ image. output ≡ encode_written image)
+    (λ image. output ≡ image_written image)
 IsAnswered (Rebuild matrix image lost workers budget plan) contents left output =
     Gave (rebuild_accepted contents left (rebuild_words matrix image lost workers budget plan))
     (λ r. IsRebuilt r output)
+IsAnswered (Convert matrix image) contents left output =
+    Gave (convert_accepted contents matrix image) (λ file. output ≡ image_written file)
 
 -- the first refusal of a request
 abbrev pub refusal : (List ℕ → List ℕ) → List ℕ → Request → Option Fault
@@ -41,6 +43,7 @@ refusal contents left (Encode matrix payload stripes bytes) =
 refusal contents left (Rebuild matrix image lost workers budget plan) =
     refusal_of (rebuild_accepted contents left
     (rebuild_words matrix image lost workers budget plan))
+refusal contents left (Convert matrix image) = refusal_of (convert_accepted contents matrix image)
 
 -- the first refusal of the words' request; words that are none are refused as such
 abbrev pub words_refusal : (List ℕ → List ℕ) → List ℕ → Option Request → Option Fault
@@ -55,6 +58,7 @@ reaches_script contents (Make code p) = false
 reaches_script contents (Encode matrix payload stripes bytes) = false
 reaches_script contents (Rebuild matrix image lost workers budget plan) =
     is_ok (image_accepted contents (rebuild_words matrix image lost workers budget plan))
+reaches_script contents (Convert matrix image) = false
 
 -- the same for the words' request
 abbrev pub words_reach_script : (List ℕ → List ℕ) → Option Request → Bool
@@ -69,6 +73,7 @@ asks_script (Some (Check matrix lost plan)) = false
 asks_script (Some (Make code p)) = false
 asks_script (Some (Encode matrix payload stripes bytes)) = false
 asks_script (Some (Rebuild matrix image lost workers budget plan)) = true
+asks_script (Some (Convert matrix image)) = false
 
 -- This is the answer to the words.
 pub record IsAnswer (words : List (List ℕ)) (contents : List ℕ → List ℕ) (left : List ℕ)
@@ -76,11 +81,3 @@ pub record IsAnswer (words : List (List ℕ)) (contents : List ℕ → List ℕ)
   pub request : Request
   pub is : request_of words ≡ Some request
   pub answered : IsAnswered request contents left output
-
--- the same for the matrix file of a request whose plan is of its matrix
-abbrev pub HasCode : Request → (List ℕ → List ℕ) → Type 0
-HasCode (Plan matrix lost workers budget) contents = IsCodeAt contents matrix
-HasCode (Check matrix lost plan) contents = ⊤
-HasCode (Make code p) contents = ⊤
-HasCode (Encode matrix payload stripes bytes) contents = ⊤
-HasCode (Rebuild matrix image lost workers budget plan) contents = IsCodeAt contents matrix

@@ -1,40 +1,18 @@
 -- The command `check`: what it accepts, and what it writes.
-use Rattle.std.specs.Prelude.{Err, List, Ok, Result, [], codes, decimal, ℕ, ◌∷◌}
+use Rattle.std.specs.Prelude.{List, Ok, Result, [], codes, decimal, ℕ, ◌∷◌}
 use Rattle.mr_bits.specs.declared.errors.What.TheVariants.{PlanBytes}
+use Rattle.mr_choices.specs.Handed.{sound_given}
 use Rattle.mr_model.specs.Code.{Code, cost}
-use Rattle.mr_plan.specs.Checks.{first_fault, sound_unless}
-use Rattle.mr_plan.specs.Plans.{PlanParts}
-use Rattle.mr_plan.specs.Readings.{read_plan}
-use Rattle.mr_plan.specs.declared.errors.PlanLine.{PlanLine}
-use Rattle.mr_plan.specs.declared.errors.Wrong.{Wrong}
 use Rattle.mr_steps.specs.Faults.{joined}
 use Rattle.mr_steps.specs.Losses.{targets_given}
 use Rattle.mr_steps.specs.Refusals.{followed_by, ◌>>=◌}
 use Rattle.mr_steps.specs.Sinks.{Output}
 use Rattle.mr_steps.specs.Texts.{matrix_given, within_limit}
 use Rattle.mr_steps.specs.declared.fault.Fault.{Fault}
-use Rattle.mr_steps.specs.declared.fault.Fault.TheVariants.{BadPlan, BadPlanLine}
-
--- the plan, or the refusal of its text
-abbrev pub or_plan_line : Result PlanParts PlanLine → Result PlanParts Fault
-or_plan_line (Ok plan) = Ok plan
-or_plan_line (Err bad) = Err (BadPlanLine bad.line)
-
--- nothing, or the refusal of the plan
-abbrev pub or_wrong : Result (Unit {0}) Wrong → Result (Unit {0}) Fault
-or_wrong (Ok sound) = Ok sound
-or_wrong (Err wrong) = Err (BadPlan wrong.symbol wrong.why)
 
 -- the line of a valid plan, with what its set costs
 abbrev pub valid_text : ℕ → List ℕ
 valid_text price = joined (codes "valid " ∷ decimal price ∷ codes "\n" ∷ [])
-
--- the valid plan of a plan file's bytes: the first refusal, or the plan
-unfoldable pub sound_given : Code → ℕ → List ℕ → Result PlanParts Fault
-sound_given m targets bytes =
-    followed_by (or_plan_line (read_plan bytes)) (λ plan.
-    followed_by (or_wrong (sound_unless (first_fault m targets plan))) (λ _.
-    Ok plan))
 
 -- what the set of that plan costs
 abbrev pub cost_given : Code → ℕ → List ℕ → Result ℕ Fault

@@ -5,8 +5,9 @@ use Rattle.mr_steps.specs.Readings.{Reading, given, ◌>>=◌}
 use Rattle.mr_steps.specs.Requests.{or_usage, rebuild_words, request_of}
 use Rattle.mr_steps.specs.Sinks.{Output}
 use Rattle.mr_steps.specs.declared.request.Request.{Request}
-use Rattle.mr_steps.specs.declared.request.Request.TheVariants.{Check, Encode, Make, Plan, Rebuild}
+use Rattle.mr_steps.specs.declared.request.Request.TheVariants.{Check, Convert, Encode, Make, Plan, Rebuild}
 use Rattle.mr_top.specs.CheckSteps.{check_answer}
+use Rattle.mr_top.specs.Convert.{convert_answer}
 use Rattle.mr_top.specs.EncodeSteps.{encode_answer}
 use Rattle.mr_top.specs.Make.{make_given}
 use Rattle.mr_top.specs.PlanSteps.{plan_answer}
@@ -21,6 +22,7 @@ command_answer contents left (Encode matrix payload stripes bytes) =
     encode_answer contents matrix payload stripes bytes
 command_answer contents left (Rebuild matrix image lost workers budget plan) =
     rebuild_answer contents left (rebuild_words matrix image lost workers budget plan)
+command_answer contents left (Convert matrix image) = convert_answer contents matrix image
 
 -- the answer to the words, over files with these contents and a script with these bytes left
 unfoldable pub answer : List (List ℕ) → (List ℕ → List ℕ) → List ℕ → Reading Output

@@ -44,6 +44,6 @@ encode_accepted contents matrix payload stripes bytes = do
   l ← layout_given m bytes stripes
   encoded_given m l (contents payload)
 
--- what `encode` writes
-abbrev pub encode_written : List ℕ → Output
-encode_written image = record { out = image; report = [] }
+-- what a command writes that answers an image file
+abbrev pub image_written : List ℕ → Output
+image_written image = record { out = image; report = [] }

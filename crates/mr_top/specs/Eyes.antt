@@ -5,9 +5,11 @@ use Rattle.mr_io.specs.declared.duty.Duty.TheVariants.{Copy, Head, Live, Mend, T
 use Rattle.mr_words.specs.declared.rebuild_words.RebuildWords.{RebuildWords}
 use Rattle.mr_steps.specs.Requests.{rebuild_words}
 use Rattle.mr_steps.specs.Losses.{loss_accepted}
+use Rattle.mr_steps.specs.Texts.{matrix_given}
 use Rattle.mr_steps.specs.declared.fault.Fault.{Fault}
 use Rattle.mr_steps.specs.declared.request.Request.{Request}
-use Rattle.mr_steps.specs.declared.request.Request.TheVariants.{Check, Encode, Make, Plan, Rebuild}
+use Rattle.mr_steps.specs.declared.request.Request.TheVariants.{Check, Convert, Encode, Make, Plan, Rebuild}
+use Rattle.mr_top.specs.Convert.{first_accepted}
 use Rattle.mr_top.specs.Encode.{layout_accepted}
 use Rattle.mr_top.specs.Rebuild.{file_accepted, rebuild_accepted}
 
@@ -35,6 +37,15 @@ rebuild_eyes contents left words =
     ++ after (file_accepted contents words) (record { name = words.image; duty = Head } ∷ [])
     ++ after (rebuild_accepted contents left words) (mend_eyes words.image)
 
+-- the eyes of a command that reads an image file whole, where the steps up to the matrix, and up to
+-- the layout, gave a value
+abbrev pub whole_eyes : {X Y : Type 0} → List ℕ → List ℕ → Result X Fault → Result Y Fault
+    → List Asked
+whole_eyes matrix image code layout =
+    record { name = matrix; duty = Text }
+    ∷ after code (record { name = image; duty = Head } ∷ [])
+    ++ after layout (record { name = image; duty = Copy } ∷ [])
+
 -- the eyes of a request
 abbrev pub request_eyes : (List ℕ → List ℕ) → List ℕ → Request → List Asked
 request_eyes contents left (Plan matrix lost workers budget) =
@@ -49,6 +60,9 @@ request_eyes contents left (Encode matrix payload stripes bytes) =
     (record { name = payload; duty = Copy } ∷ [])
 request_eyes contents left (Rebuild matrix image lost workers budget plan) =
     rebuild_eyes contents left (rebuild_words matrix image lost workers budget plan)
+request_eyes contents left (Convert matrix image) =
+    whole_eyes matrix image (matrix_given (contents matrix))
+    (first_accepted contents matrix image)
 
 -- the eyes of words: none where they are not read
 abbrev pub words_eyes : (List ℕ → List ℕ) → List ℕ → Option Request → List Asked
@@ -70,3 +84,6 @@ command_eyes (Some (Encode matrix payload stripes bytes)) =
     record { name = matrix; duty = Text } ∷ record { name = payload; duty = Copy } ∷ []
 command_eyes (Some (Rebuild matrix image lost workers budget plan)) =
     record { name = matrix; duty = Text } ∷ plan_eyes plan ++ image_eyes image
+command_eyes (Some (Convert matrix image)) =
+    record { name = matrix; duty = Text } ∷ record { name = image; duty = Head }
+    ∷ record { name = image; duty = Copy } ∷ []

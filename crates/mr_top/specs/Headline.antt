@@ -1,20 +1,23 @@
 -- The headline, for `plan` and for `rebuild`: a loss is refused as undetermined exactly where the
--- survivors do not determine it; else the plan is valid, and within the budget of the least cost
--- and the first such; and where the survivors come from codewords, the image written and every
--- reply are the codewords' own.
+-- survivors do not determine it, in some rotation that the image uses; else the plan of each is
+-- valid, and within the budget of the least cost and the first such; and where the survivors come
+-- from codewords, the image written and every reply are the codewords' own.
 use Rattle.std.specs.Int.{bit_at}
-use Rattle.std.specs.Prelude.{List, None, Ok, Option, Some, false, length, option_map, true, ℕ, ⊤, ◌*◌, ◌++◌, ◌<◌, ◌≡◌, ◌≤◌}
+use Rattle.std.specs.Prelude.{List, None, Ok, Option, Some, false, length, option_map, true, ℕ, ⊤, ◌*◌, ◌++◌, ◌<◌, ◌≡◌, ◌≤◌, ◌⊎◌}
+use Rattle.mr_choices.specs.Handed.{plan_file_given}
 use Rattle.mr_eq.specs.Laws.{IsFirstSmallest}
 use Rattle.mr_image.specs.Heads.{image_bytes}
 use Rattle.mr_image.specs.Images.{ComeFrom, Layout, code_image, every_stripe, image_of, mended}
+use Rattle.mr_image.specs.Rotated.{codes_by, rotations}
 use Rattle.mr_io.specs.Counts.{counted}
+use Rattle.mr_mend.specs.Mending.{members_read}
 use Rattle.mr_mend.specs.Replies.{reply_lines}
 use Rattle.mr_mend.specs.declared.asks.Ask.{Ask}
 use Rattle.mr_model.specs.Choice.{search_of}
 use Rattle.mr_model.specs.Code.{Code, cost, has_equation, plain}
-use Rattle.mr_model.specs.Members.{members}
 use Rattle.mr_model.specs.Plans.{IsValidPlan}
 use Rattle.mr_model.specs.Search.{work}
+use Rattle.mr_plan.specs.PlanLists.{plan_at, recipes_at}
 use Rattle.mr_plan.specs.PlanText.{plan_text}
 use Rattle.mr_plan.specs.Plans.{PlanParts, survivors}
 use Rattle.mr_plan.specs.declared.kinds.Kind.TheVariants.{Given, Least, Spent}
@@ -27,11 +30,11 @@ use Rattle.mr_steps.specs.Sinks.{HasLine}
 use Rattle.mr_steps.specs.Texts.{matrix_given}
 use Rattle.mr_steps.specs.declared.choice_line.ChoiceLine.{ChoiceLine}
 use Rattle.mr_steps.specs.declared.choice_line.ChoiceLine.TheVariants.{Given as GivenLine, Least as LeastLine, Spent as SpentLine}
-use Rattle.mr_steps.specs.declared.fault.Fault.TheVariants.{Undetermined}
+use Rattle.mr_steps.specs.declared.fault.Fault.TheVariants.{Undetermined, UndeterminedAt}
 use Rattle.mr_steps.specs.declared.request.Request.{Request}
-use Rattle.mr_steps.specs.declared.request.Request.TheVariants.{Check, Encode, Make, Plan, Rebuild}
+use Rattle.mr_steps.specs.declared.request.Request.TheVariants.{Check, Convert, Encode, Make, Plan, Rebuild}
 use Rattle.mr_top.specs.Ran.{Ran, Wrote}
-use Rattle.mr_top.specs.Rebuild.{asks_given, head_given, plan_file_given, stripes_text}
+use Rattle.mr_top.specs.Rebuild.{asks_given, head_given, line_at, plans_report}
 
 -- The survivors do not determine the lost symbol t, and each lost symbol below it they do.
 pub record IsLeastUndetermined (m : Code) (lost t : ℕ) : Type 0 where
@@ -50,6 +53,36 @@ pub record IsRefused (contents : List ℕ → List ℕ) (matrix lost : List ℕ)
   pub only : (m : Code) (devices : ℕ) → matrix_given (contents matrix) ≡ Ok m
       → lost_given m.devices lost ≡ Ok devices
       → ran.status ≡ 7 → (t : ℕ) × IsLeastUndetermined m (symbols_of_devices m devices) t
+
+-- The survivors do not determine the lost symbol t in rotation r, which is in use and above 0, and
+-- each lost symbol below it they do, and each in the rotations before it.
+pub record IsLeastRotation (l : Layout) (m : Code) (lost r t : ℕ) : Type 0 where
+  pub above : 0 < r
+  pub used : r < rotations l
+  pub symbol : IsLeastUndetermined (codes_by l m r) lost t
+  pub before : (q i : ℕ) → q < r → bit_at lost i ≡ 1
+      → has_equation (codes_by l m q) (survivors (codes_by l m q) lost) i ≡ true
+
+-- The same of a rebuild, where besides the first rotation each other counts that the image uses.
+pub record IsImageRefused (contents : List ℕ → List ℕ) (words : RebuildWords) (failed : Type 0)
+    (ran : Ran) : Type 0 where
+  pub refused : (m : Code) (devices t : ℕ) → matrix_given (contents words.matrix) ≡ Ok m
+      → lost_given m.devices words.lost ≡ Ok devices
+      → IsLeastUndetermined m (symbols_of_devices m devices) t
+      → (ran.status ≡ 7)
+      × HasLine ran.report_old ran.report_new failed (fault_line (Undetermined t))
+  pub later : (m : Code) (devices : ℕ) (l : Layout) (r t : ℕ)
+      → matrix_given (contents words.matrix) ≡ Ok m
+      → lost_given m.devices words.lost ≡ Ok devices
+      → words.plan ≡ None → head_given m (contents words.image) ≡ Ok l
+      → IsLeastRotation l m (symbols_of_devices m devices) r t
+      → (ran.status ≡ 7)
+      × HasLine ran.report_old ran.report_new failed (fault_line (UndeterminedAt r t))
+  pub only : (m : Code) (devices : ℕ) → matrix_given (contents words.matrix) ≡ Ok m
+      → lost_given m.devices words.lost ≡ Ok devices → ran.status ≡ 7
+      → ((t : ℕ) × IsLeastUndetermined m (symbols_of_devices m devices) t)
+      ⊎ ((l : Layout) × (r : ℕ) × (t : ℕ) × (head_given m (contents words.image) ≡ Ok l)
+      × IsLeastRotation l m (symbols_of_devices m devices) r t)
 
 -- The plan is valid. Without a plan file it is the first smallest set where its work is within the
 -- budget, and else the plain set; with one it is that file's.
@@ -81,29 +114,30 @@ pub record PlansRight (contents : List ℕ → List ℕ) (matrix lost : List ℕ
   pub planned : ran.status ≡ 0 → (m : Code) (targets : ℕ) → matrix_given (contents matrix) ≡ Ok m
       → targets_given m lost ≡ Ok targets → HasPlanned m targets budget ran
 
--- The image is mended by the plan, each stripe once, and written; where its survivors come from
--- data, what was written and each reply are the codewords' own.
+-- The image is mended by the plans, one for each rotation in use, each stripe once, and written;
+-- where its survivors come from data, what was written and each reply are the codewords' own.
 pub record HasRebuilt (m : Code) (lost budget : ℕ) (handed : Option (List ℕ)) (l : Layout)
     (bytes : List ℕ) (asks : List Ask) (ran : Ran) : Type 0 where
-  pub plan : PlanParts
-  pub line : ChoiceLine
-  pub wanted : IsPlanWanted m lost budget handed plan line
+  pub plans : List PlanParts
+  pub lines : List ChoiceLine
+  pub count : length plans ≡ rotations l
+  pub wanted : (r : ℕ) → r < rotations l
+      → IsPlanWanted (codes_by l m r) lost budget handed (plan_at plans r) (line_at lines r)
   pub once : ran.totals_new.mend
-      ≡ counted ran.totals_old.mend (l.stripes * (length (members plan.set) * l.symbol_bytes))
-  pub front : List ℕ
-  pub front_is : front ≡ plan_text plan ++ line_text line ++ stripes_text l.stripes
+      ≡ counted ran.totals_old.mend (members_read plans l.stripes * l.symbol_bytes)
   pub mended_file : Wrote ran
-      (image_bytes l (mended l (every_stripe plan.recipes) (image_of l bytes)))
-      (front ++ reply_lines (mended l (every_stripe plan.recipes) (image_of l bytes)) asks)
+      (image_bytes l (mended l (recipes_at plans) (image_of l bytes)))
+      (plans_report l plans lines
+      ++ reply_lines (mended l (recipes_at plans) (image_of l bytes)) asks)
   pub own : (columns : ℕ → List (List ℕ))
-      → ComeFrom l (every_stripe m) (every_stripe (survivors m lost)) (image_of l bytes) columns
-      → Wrote ran (image_bytes l (code_image l (every_stripe m) columns))
-      (front ++ reply_lines (code_image l (every_stripe m) columns) asks)
+      → ComeFrom l (codes_by l m) (every_stripe (survivors m lost)) (image_of l bytes) columns
+      → Wrote ran (image_bytes l (code_image l (codes_by l m) columns))
+      (plans_report l plans lines ++ reply_lines (code_image l (codes_by l m) columns) asks)
 
 -- `rebuild` keeps to the headline.
 pub record RebuildsRight (contents : List ℕ → List ℕ) (left : List ℕ) (words : RebuildWords)
     (failed : Type 0) (ran : Ran) : Type 0 where
-  pub refused : IsRefused contents words.matrix words.lost failed ran
+  pub refused : IsImageRefused contents words failed ran
   pub rebuilt : ran.status ≡ 0 → (m : Code) (targets : ℕ) (l : Layout) (asks : List Ask)
       → matrix_given (contents words.matrix) ≡ Ok m → targets_given m words.lost ≡ Ok targets
       → head_given m (contents words.image) ≡ Ok l → asks_given l left ≡ Ok asks
@@ -119,3 +153,4 @@ Headline (Make code p) contents left failed ran = ⊤
 Headline (Encode matrix payload stripes bytes) contents left failed ran = ⊤
 Headline (Rebuild matrix image lost workers budget plan) contents left failed ran =
     RebuildsRight contents left (rebuild_words matrix image lost workers budget plan) failed ran
+Headline (Convert matrix image) contents left failed ran = ⊤

@@ -7,6 +7,8 @@ pub mod Encode
 pub mod EncodeSteps
 pub mod Rebuild
 pub mod RebuildSteps
+pub mod WholeImages
+pub mod Convert
 pub mod Answered
 pub mod Commands
 pub mod Eyes

@@ -1,8 +1,12 @@
 -- The bytes that each command takes, by duty.
 use Rattle.std.specs.Prelude.{List, None, Option, Some, filter, length, ℕ, ◌*◌, ◌+◌, ◌≡◌}
+use Rattle.mr_image.specs.declared.limits.TheConstants.{HEAD_BYTES}
+use Rattle.mr_image.specs.Images.{Layout, stripe_symbols}
+use Rattle.mr_image.specs.declared.limits.TheConstants.{HEAD_BYTES}
 use Rattle.mr_io.specs.Counts.{counted}
 use Rattle.mr_io.specs.Growth.{grown, no_bytes}
 use Rattle.mr_io.specs.declared.totals.Totals.{Totals}
+use Rattle.mr_mend.specs.Mending.{members_read}
 use Rattle.mr_mend.specs.declared.asks.Ask.{Ask}
 use Rattle.mr_model.specs.Members.{members}
 use Rattle.mr_model.specs.Sets.{has}
@@ -11,7 +15,8 @@ use Rattle.mr_words.specs.declared.rebuild_words.RebuildWords.{RebuildWords}
 use Rattle.mr_steps.specs.Requests.{rebuild_words}
 use Rattle.mr_steps.specs.Refusals.{Gave}
 use Rattle.mr_steps.specs.declared.request.Request.{Request}
-use Rattle.mr_steps.specs.declared.request.Request.TheVariants.{Check, Encode, Make, Plan, Rebuild}
+use Rattle.mr_steps.specs.declared.request.Request.TheVariants.{Check, Convert, Encode, Make, Plan, Rebuild}
+use Rattle.mr_top.specs.Convert.{first_accepted}
 use Rattle.mr_top.specs.Rebuild.{RebuildAccepted, rebuild_accepted}
 
 -- the bytes of a plan file, where one is named
@@ -23,20 +28,27 @@ plan_bytes contents (Some plan) = length (contents plan)
 abbrev pub survivor_asks : RebuildAccepted → List Ask
 survivor_asks r = filter (λ ask. has (survivors r.code r.lost) ask.symbol) r.asks
 
--- A rebuild took its text files, 32 bytes of head, the plan's set once in each stripe, the
+-- A rebuild took its text files, the bytes of a head, in each stripe the set of its plan once, the
 -- survivors that are asked for, and all survivors once in each stripe.
 pub record IsTaken (contents : List ℕ → List ℕ) (words : RebuildWords) (r : RebuildAccepted)
     (old new : Totals) : Type 0 where
   pub text : new.text
       ≡ counted old.text (length (contents words.matrix) + plan_bytes contents words.plan)
-  pub head : new.head ≡ counted old.head 32
+  pub head : new.head ≡ counted old.head HEAD_BYTES
   pub mend : new.mend
-      ≡ counted old.mend
-      (r.layout.stripes * (length (members r.chosen.plan.set) * r.layout.symbol_bytes))
+      ≡ counted old.mend (members_read r.plans r.layout.stripes * r.layout.symbol_bytes)
   pub live : new.live ≡ counted old.live (length (survivor_asks r) * r.layout.symbol_bytes)
   pub copy : new.copy
       ≡ counted old.copy
       (r.layout.stripes * (length (members (survivors r.code r.lost)) * r.layout.symbol_bytes))
+
+-- a matrix text, a head and all symbols of its image
+abbrev pub whole_taken : ℕ → Layout → Totals
+whole_taken text l = record no_bytes {
+  text = text;
+  head = HEAD_BYTES;
+  copy = l.stripes * stripe_symbols l * l.symbol_bytes;
+}
 
 -- the totals of each duty, after a run of this request that answered
 abbrev pub TookRight : Request → (List ℕ → List ℕ) → List ℕ → Totals → Totals → Type 0
@@ -51,3 +63,6 @@ TookRight (Encode matrix payload stripes bytes) contents left old new =
 TookRight (Rebuild matrix image lost workers budget plan) contents left old new =
     Gave (rebuild_accepted contents left (rebuild_words matrix image lost workers budget plan))
     (λ r. IsTaken contents (rebuild_words matrix image lost workers budget plan) r old new)
+TookRight (Convert matrix image) contents left old new =
+    Gave (first_accepted contents matrix image)
+    (λ l. new ≡ grown old (whole_taken (length (contents matrix)) l))

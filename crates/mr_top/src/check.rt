@@ -1,26 +1,24 @@
 //! The command `check`.
 
 ghost use Rattle.mr_top.specs.CheckSteps.{check_answer};
-ghost use Rattle.mr_top.specs.Check.{cost_given, sound_given};
+ghost use Rattle.mr_top.specs.Check.{cost_given};
 ghost use Rattle.mr_steps.specs.Losses.{loss_of};
 ghost use Rattle.mr_top.specs.Replies.{HasRoom, output_of};
 ghost use Rattle.mr_steps.specs.Steps.{Gives, Grows, HasReadCause, IsPastWords, Reads};
-ghost use Rattle.mr_model.specs.Plans.{IsValidPlan};
-ghost use Rattle.mr_plan.specs.Plans.{survivors};
-ghost use Rattle.std.specs.Prelude.{◌≡◌, ◌^◌, ◌<◌, length, IfOk};
+ghost use Rattle.std.specs.Prelude.{◌≡◌, IfOk};
 
 use crate::lent::Lent;
 use crate::reply::Reply;
-use mr_bits::{Mask, Matrix, What};
+use mr_bits::{Matrix, What};
+use mr_choices::sound_plan;
 use mr_eq::Problem;
 use mr_io::{Files, Source};
-use mr_plan::Plan;
 use mr_steps::{Fault, file_text, loss_in, matrix_text};
 use mr_words::CheckWords;
 
 /// Whether the plan file's plan is valid for the matrix file and the lost devices.
-pub(crate) fn check<F: Files, S: Source>(
-    lent: &mut Lent<'_, '_, '_, F, S>,
+pub(crate) fn check<T, F: Files, S: Source, G>(
+    lent: &mut Lent<'_, '_, '_, T, F, S, G>,
     words: &CheckWords,
 ) -> Result<Reply, Fault>
     ensures same_files { lent.new.files.ghost_name ≡ lent.old.files.ghost_name }
@@ -36,9 +34,9 @@ pub(crate) fn check<F: Files, S: Source>(
         (F.faults lent.new.files.now) result }
     ensures past_words { IsPastWords result }
 {
-    let matrix = matrix_text(lent.alloc, lent.files, &words.matrix)?;
+    let matrix = matrix_text(lent.tools.alloc, lent.files, &words.matrix)?;
     let problem = loss_in(&matrix, &words.lost)?;
-    let bytes = file_text(lent.alloc, lent.files, &words.plan, What::PlanBytes)?;
+    let bytes = file_text(lent.tools.alloc, lent.files, &words.plan, What::PlanBytes)?;
     let cost = cost_of(&matrix, &problem, &bytes)?;
     Ok(Reply::Check { cost })
 }
@@ -53,19 +51,4 @@ fn cost_of(matrix: &Matrix, problem: &Problem, bytes: &[u8]) -> Result<u32, Faul
 {
     let plan = sound_plan(matrix, problem.targets(), bytes)?;
     Ok(problem.cost(plan.set()))
-}
-
-/// The plan of a text, where it is valid for the lost symbols.
-pub(crate) fn sound_plan(matrix: &Matrix, targets: Mask, bytes: &[u8]) -> Result<Plan, Fault>
-    requires { targets < 2 ^ length matrix.now.rows }
-    ensures given { Gives (λ plan. plan) result (sound_given matrix.now targets bytes.now) }
-    ensures valid { IfOk result
-        (λ plan. IsValidPlan matrix.now
-        (survivors matrix.now targets) targets plan.set plan.recipes) }
-    ensures cause { HasReadCause 0 0 result }
-    ensures past_words { IsPastWords result }
-{
-    let plan = Plan::read(bytes)?;
-    mr_plan::check(matrix, targets, &plan)?;
-    Ok(plan)
 }

@@ -20,8 +20,8 @@ use mr_words::EncodeWords;
 use std::alloc::Global;
 
 /// The image of the codewords of a data file, for a matrix file.
-pub(crate) fn encode<F: Files, S: Source>(
-    lent: &mut Lent<'_, '_, '_, F, S>,
+pub(crate) fn encode<T, F: Files, S: Source, G>(
+    lent: &mut Lent<'_, '_, '_, T, F, S, G>,
     words: &EncodeWords,
 ) -> Result<Reply, Fault>
     ensures same_files { lent.new.files.ghost_name ≡ lent.old.files.ghost_name }
@@ -39,7 +39,7 @@ pub(crate) fn encode<F: Files, S: Source>(
         (F.faults lent.new.files.now) result }
     ensures past_words { IsPastWords result }
 {
-    let matrix = matrix_text(lent.alloc, lent.files, &words.matrix)?;
+    let matrix = matrix_text(lent.tools.alloc, lent.files, &words.matrix)?;
     let head = head_for(&matrix, words.bytes, words.stripes)?;
     let image = encoded_image(lent, &words.payload, &matrix, &head)?;
     Ok(Reply::Encode { image })
@@ -59,8 +59,8 @@ fn head_for(matrix: &Matrix, bytes: u32, stripes: u32) -> Result<ImageHead, Faul
 }
 
 /// The image of the codewords of a data file. The eye is given back on each way out.
-fn encoded_image<F: Files, S: Source>(
-    lent: &mut Lent<'_, '_, '_, F, S>,
+fn encoded_image<T, F: Files, S: Source, G>(
+    lent: &mut Lent<'_, '_, '_, T, F, S, G>,
     payload: &Text,
     matrix: &Matrix,
     head: &ImageHead,
@@ -81,7 +81,7 @@ fn encoded_image<F: Files, S: Source>(
     ensures past_words { IsPastWords result }
 {
     let mut eye = lent.files.eye(payload.as_str(), Duty::Copy)?;
-    let image = image_behind(lent.alloc, &mut eye, matrix, head, lent.kernel);
+    let image = image_behind(lent.tools.alloc, &mut eye, matrix, head, lent.tools.kernel);
     lent.files.retire(eye);
     image
 }

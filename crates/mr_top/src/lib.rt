@@ -3,9 +3,8 @@
 
 mod asking;
 mod check;
-mod chosen;
+mod convert;
 mod encode;
-mod handed;
 mod image_read;
 mod lent;
 mod make;
@@ -15,7 +14,7 @@ mod rebuilding;
 mod reply;
 mod top;
 
-pub use chosen::ChosenPlan;
+pub use mr_choices::{ChosenPlan, ChosenPlans};
 pub use mr_steps::{ChoiceLine, Fault, Request, read_words};
 pub use reply::Reply;
 pub use top::run;

@@ -1,28 +1,29 @@
 //! The command `rebuild`: the image file, its head and its mending.
 
-ghost use Rattle.std.specs.Prelude.{◌≡◌, ◌≤◌, ◌^◌, ◌<◌, ◌⊎◌, ℕ, chars, length, option_map, None, All, IfOk, IfSome, IsErrOf, OnOk};
+ghost use Rattle.std.specs.Prelude.{◌≡◌, ◌≤◌, ◌⊎◌, chars, length, option_map, None, All, IfOk, IsErrOf, OnOk};
 ghost use Rattle.std.specs.Option.{ForSome};
-ghost use Rattle.mr_model.specs.Plans.{IsValidPlan};
 ghost use Rattle.mr_image.specs.Heads.{file_bytes};
 ghost use Rattle.mr_io.specs.Sights.{sight_with};
-ghost use Rattle.mr_mend.specs.Mending.{HasImage, IsMendable, IsRoomFor, IsSameFile, copied_set};
-ghost use Rattle.mr_plan.specs.Plans.{survivors};
-ghost use Rattle.mr_top.specs.RebuildSteps.{copied_image, head_file, mended_image, rebuild_by, replied_image, mending_reads};
+ghost use Rattle.mr_image.specs.Sights.{IsSameFile};
+ghost use Rattle.mr_mend.specs.Mending.{AreMendable, IsRoomFor, copied_set};
+ghost use Rattle.mr_plan.specs.PlanLists.{recipes_at};
+ghost use Rattle.mr_top.specs.RebuildSteps.{copied_image, head_file, mended_image, replied_image, mending_reads};
 ghost use Rattle.mr_top.specs.Rebuild.{head_given};
 ghost use Rattle.mr_mend.specs.Scripts.{IsInRange};
 ghost use Rattle.mr_mend.specs.Serving.{live_reads};
 ghost use Rattle.mr_io.specs.Counts.{Rose};
-ghost use Rattle.mr_top.specs.Replies.{HasRoom, HasRoomFor, mended_view, output_of};
+ghost use Rattle.mr_top.specs.Replies.{HasRoomFor, mended_view};
 ghost use Rattle.mr_steps.specs.Steps.{Gives, Grows, HasReadCause, HasReadCauses, IsPastWords, Reads};
 
 use mr_bits::Matrix;
 use mr_form::{ImageHead, ImageKind};
+use mr_image::HEAD_BYTES;
 use mr_io::{Duty, Eye, Files, Text};
 use mr_mend::{Rebuild, Rebuilt, Room};
 use mr_steps::Fault;
 
 /// The bytes of a head.
-const HEAD: usize = 32;
+const HEAD: usize = HEAD_BYTES as usize;
 
 /// The head of an image file for a matrix. The eye is given back on each way out.
 pub(crate) fn image_head<F: Files>(
@@ -54,7 +55,7 @@ fn head_behind<E: Eye>(eye: &mut E, matrix: &Matrix) -> Result<ImageHead, Fault>
     ensures given { ForSome (E.sight eye.old).bytes
         (λ bytes. Gives (λ head. head) result (head_given matrix.now bytes)) }
     ensures taken { OnOk result
-        (ForSome (E.sight eye.old).bytes (λ _. E.sight eye.new ≡ sight_with (E.sight eye.old) 32)) }
+        (ForSome (E.sight eye.old).bytes (λ _. E.sight eye.new ≡ sight_with (E.sight eye.old) HEAD_BYTES)) }
     ensures fits { IfOk result
         (λ head. ForSome (E.sight eye.old).bytes (λ bytes. length bytes ≡ file_bytes head)) }
     ensures devices { IfOk result (λ head. head.devices ≡ matrix.now.devices) }
@@ -64,7 +65,7 @@ fn head_behind<E: Eye>(eye: &mut E, matrix: &Matrix) -> Result<ImageHead, Fault>
     ensures past_words { IsPastWords result }
 {
     let length = eye.len()?;
-    if length < HEAD as u64 {
+    if length < HEAD_BYTES {
         return Err(Fault::BadImage {
             kind: ImageKind::Head,
         });
@@ -90,21 +91,21 @@ pub(crate) fn mend_image<F: Files>(
     mending: &Mending,
     room: Room,
 ) -> Result<Rebuilt, Fault>
-    requires plan { IsMendable mending.now.rebuild.head.now mending.now.rebuild.plan.now }
+    requires plans { AreMendable mending.now.rebuild.head.now mending.now.rebuild.plans.now }
     requires asks { All (IsInRange mending.now.rebuild.head.now) mending.now.rebuild.asks.now }
     requires fits { ForSome (F.told files.old)
         (λ told. length (told.contents mending.now.image.now)
         ≡ file_bytes mending.now.rebuild.head.now) }
-    requires room { IsRoomFor mending.now.rebuild.head.now mending.now.rebuild.plan.now
+    requires room { IsRoomFor mending.now.rebuild.head.now mending.now.rebuild.plans.now
         mending.now.rebuild.asks.now room }
     ensures reads { Reads mended_view (F.told files.old) (F.told files.new) result
         (λ contents. mended_image contents mending.now.image.now
-        (copied_set mending.now.rebuild.head.now mending.now.rebuild.plan.now.recipes)
-        mending.now.rebuild.head.now mending.now.rebuild.plan.now mending.now.rebuild.asks.now) }
+        (copied_set mending.now.rebuild.head.now (recipes_at mending.now.rebuild.plans.now 0))
+        mending.now.rebuild.head.now mending.now.rebuild.plans.now mending.now.rebuild.asks.now) }
     ensures totals { Grows (F.told files.old) (F.totals files.old) (F.totals files.new) result
         (λ contents. mended_image contents mending.now.image.now
-        (copied_set mending.now.rebuild.head.now mending.now.rebuild.plan.now.recipes)
-        mending.now.rebuild.head.now mending.now.rebuild.plan.now mending.now.rebuild.asks.now) }
+        (copied_set mending.now.rebuild.head.now (recipes_at mending.now.rebuild.plans.now 0))
+        mending.now.rebuild.head.now mending.now.rebuild.plans.now mending.now.rebuild.asks.now) }
     ensures room { IfOk result
         (HasRoomFor mending.now.rebuild.head.now mending.now.rebuild.asks.now) }
     ensures cause { HasReadCause (F.faults files.old) (F.faults files.new) result }
@@ -123,29 +124,29 @@ fn reply_beside<F: Files>(
     mending: &Mending,
     room: Room,
 ) -> Result<Rebuilt, Fault>
-    requires plan { IsMendable mending.now.rebuild.head.now mending.now.rebuild.plan.now }
+    requires plans { AreMendable mending.now.rebuild.head.now mending.now.rebuild.plans.now }
     requires asks { All (IsInRange mending.now.rebuild.head.now) mending.now.rebuild.asks.now }
     requires fits { ForSome (F.told files.old)
         (λ told. length (told.contents mending.now.image.now)
         ≡ file_bytes mending.now.rebuild.head.now) }
     requires same { (F.E.sight mender.old).bytes
         ≡ option_map (λ told. told.contents mending.now.image.now) (F.told files.old) }
-    requires room { IsRoomFor mending.now.rebuild.head.now mending.now.rebuild.plan.now
+    requires room { IsRoomFor mending.now.rebuild.head.now mending.now.rebuild.plans.now
         mending.now.rebuild.asks.now room }
     ensures reads { Reads mended_view (F.told files.old) (F.told files.new) result
         (λ contents. replied_image contents mending.now.image.now
-        (copied_set mending.now.rebuild.head.now mending.now.rebuild.plan.now.recipes)
-        mending.now.rebuild.head.now mending.now.rebuild.plan.now mending.now.rebuild.asks.now) }
+        (copied_set mending.now.rebuild.head.now (recipes_at mending.now.rebuild.plans.now 0))
+        mending.now.rebuild.head.now mending.now.rebuild.plans.now mending.now.rebuild.asks.now) }
     ensures totals { Grows (F.told files.old) (F.totals files.old) (F.totals files.new) result
         (λ contents. replied_image contents mending.now.image.now
-        (copied_set mending.now.rebuild.head.now mending.now.rebuild.plan.now.recipes)
-        mending.now.rebuild.head.now mending.now.rebuild.plan.now mending.now.rebuild.asks.now) }
+        (copied_set mending.now.rebuild.head.now (recipes_at mending.now.rebuild.plans.now 0))
+        mending.now.rebuild.head.now mending.now.rebuild.plans.now mending.now.rebuild.asks.now) }
     ensures room { IfOk result
         (HasRoomFor mending.now.rebuild.head.now mending.now.rebuild.asks.now) }
     ensures taken { OnOk result
         (F.E.sight mender.new
         ≡ sight_with (F.E.sight mender.old)
-        (mending_reads mending.now.rebuild.head.now mending.now.rebuild.plan.now)) }
+        (mending_reads mending.now.rebuild.head.now mending.now.rebuild.plans.now)) }
     ensures file { IsSameFile (F.E.sight mender.old) (F.E.sight mender.new) }
     ensures untold { F.told files.old ≡ None → F.told files.new ≡ None }
     ensures cause { HasReadCauses (F.faults files.old) (F.faults files.new) (F.E.faults mender.old)
@@ -166,7 +167,7 @@ fn copy_beside<F: Files>(
     mending: &Mending,
     room: Room,
 ) -> Result<Rebuilt, Fault>
-    requires plan { IsMendable mending.now.rebuild.head.now mending.now.rebuild.plan.now }
+    requires plans { AreMendable mending.now.rebuild.head.now mending.now.rebuild.plans.now }
     requires asks { All (IsInRange mending.now.rebuild.head.now) mending.now.rebuild.asks.now }
     requires fits { ForSome (F.told files.old)
         (λ told. length (told.contents mending.now.image.now)
@@ -175,26 +176,26 @@ fn copy_beside<F: Files>(
         ≡ option_map (λ told. told.contents mending.now.image.now) (F.told files.old) }
     requires reader { (F.E.sight reader.old).bytes
         ≡ option_map (λ told. told.contents mending.now.image.now) (F.told files.old) }
-    requires room { IsRoomFor mending.now.rebuild.head.now mending.now.rebuild.plan.now
+    requires room { IsRoomFor mending.now.rebuild.head.now mending.now.rebuild.plans.now
         mending.now.rebuild.asks.now room }
     ensures reads { Reads mended_view (F.told files.old) (F.told files.new) result
         (λ contents. copied_image contents mending.now.image.now
-        (copied_set mending.now.rebuild.head.now mending.now.rebuild.plan.now.recipes)
-        mending.now.rebuild.head.now mending.now.rebuild.plan.now mending.now.rebuild.asks.now) }
+        (copied_set mending.now.rebuild.head.now (recipes_at mending.now.rebuild.plans.now 0))
+        mending.now.rebuild.head.now mending.now.rebuild.plans.now mending.now.rebuild.asks.now) }
     ensures totals { Grows (F.told files.old) (F.totals files.old) (F.totals files.new) result
         (λ contents. copied_image contents mending.now.image.now
-        (copied_set mending.now.rebuild.head.now mending.now.rebuild.plan.now.recipes)
-        mending.now.rebuild.head.now mending.now.rebuild.plan.now mending.now.rebuild.asks.now) }
+        (copied_set mending.now.rebuild.head.now (recipes_at mending.now.rebuild.plans.now 0))
+        mending.now.rebuild.head.now mending.now.rebuild.plans.now mending.now.rebuild.asks.now) }
     ensures room { IfOk result
         (HasRoomFor mending.now.rebuild.head.now mending.now.rebuild.asks.now) }
     ensures mended { OnOk result
         (F.E.sight mender.new
         ≡ sight_with (F.E.sight mender.old)
-        (mending_reads mending.now.rebuild.head.now mending.now.rebuild.plan.now)) }
+        (mending_reads mending.now.rebuild.head.now mending.now.rebuild.plans.now)) }
     ensures replied { OnOk result
         (F.E.sight reader.new
         ≡ sight_with (F.E.sight reader.old)
-        (live_reads mending.now.rebuild.head.now mending.now.rebuild.plan.now.recipes
+        (live_reads mending.now.rebuild.head.now (recipes_at mending.now.rebuild.plans.now)
         mending.now.rebuild.asks.now)) }
     ensures mender_file { IsSameFile (F.E.sight mender.old) (F.E.sight mender.new) }
     ensures reader_file { IsSameFile (F.E.sight reader.old) (F.E.sight reader.new) }

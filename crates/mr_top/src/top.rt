@@ -7,7 +7,7 @@ ghost use Rattle.mr_io.specs.Growth.{grown};
 ghost use Rattle.mr_io.specs.Reading.{ReadsFront};
 ghost use Rattle.mr_io.specs.Taking.{Takes};
 ghost use Rattle.mr_io.specs.Telling.{AsksFront};
-ghost use Rattle.mr_top.specs.Answered.{asks_script, HasCode, reaches_script, words_reach_script};
+ghost use Rattle.mr_top.specs.Answered.{asks_script, reaches_script, words_reach_script};
 ghost use Rattle.mr_top.specs.Commands.{answer, command_answer};
 ghost use Rattle.mr_top.specs.Eyes.{command_eyes};
 ghost use Rattle.mr_top.specs.Answers.{Answers};
@@ -19,30 +19,34 @@ ghost use Rattle.mr_steps.specs.Requests.{IsRequest, request_of};
 ghost use Rattle.mr_steps.specs.Steps.{EndsScript, FollowsWith, HasReadCauses, IsForeseen, IsLeft, IsPastWords};
 
 use crate::check::check;
+use crate::convert::convert;
 use crate::encode::encode;
-use crate::lent::Lent;
+use crate::lent::{Lent, Tools};
 use crate::make::make;
 use crate::plan::plan;
 use crate::rebuild::rebuild;
 use crate::reply::Reply;
-use mr_io::{Files, Sink, Source};
+use mr_io::{Files, Gate, Sink, Source};
 use mr_kern::XorKernel;
 use mr_steps::{Fault, Request, read_words, refuse};
-use mr_words::{CheckWords, EncodeWords, PlanWords, RebuildWords};
+use mr_words::{CheckWords, ConvertWords, EncodeWords, PlanWords, RebuildWords};
 use std::alloc::Global;
+use std::thread::Threads;
 
 /// Answers the words of the command line: what the command gives goes to `out`, and its report, or
 /// the line of the refusal, to `report`. The result is the exit status, 0 or that of the fault.
 ///
 /// Everything is read before the first byte is written. After a refusal other than a failed write
 /// nothing was written to `out`. Want of memory (11) may come at any step, and ends the run there.
-pub fn run<F: Files, S: Source, O: Sink, R: Sink>(
+pub fn run<T: Threads + Sync, F: Files, S: Source, O: Sink, R: Sink, G: Gate + Sync>(
+    rt: &T,
     alloc: Global,
     words: &[String],
     files: &mut F,
     script: &mut S,
     out: &mut O,
     report: &mut R,
+    gate: &G,
     kernel: &XorKernel,
 ) -> u8
     // For the bytes left in the script: the status, and what the sinks took, is what the words ask
@@ -110,26 +114,28 @@ pub fn run<F: Files, S: Source, O: Sink, R: Sink>(
     ensures no_script { asks_script (request_of (map string_bytes words.now)) ≡ false
         → script.new ≡ script.old }
 {
-    match answer_lent(alloc, words, files, script, kernel) {
+    let tools = Tools {
+        rt,
+        alloc,
+        gate,
+        kernel,
+    };
+    match answer_lent(tools, words, files, script) {
         Ok(mut reply) => write_reply(&mut reply, out, report),
         Err(fault) => refuse(fault, report),
     }
 }
 
 /// The answer to the words, for what is lent.
-fn answer_lent<F: Files, S: Source>(
-    alloc: Global,
+fn answer_lent<T: Threads + Sync, F: Files, S: Source, G: Gate + Sync>(
+    tools: Tools<'_, T, G>,
     words: &[String],
     files: &mut F,
     script: &mut S,
-    kernel: &XorKernel,
 ) -> Result<Reply, Fault>
     ensures follows { FollowsWith output_of (F.told files.old) (F.told files.new)
         (F.totals files.old) (F.totals files.new) (S.left script.old) result
         (λ contents left. answer (map string_bytes words.now) contents left) }
-    ensures coded { IfOk result (λ _. IfSome (F.told files.old) (λ told.
-        IfSome (request_of (map string_bytes words.now))
-        (λ request. HasCode request told.contents))) }
     ensures room { IfOk result HasRoom }
     ensures ended { asks_script (request_of (map string_bytes words.now)) ≡ true
         → EndsScript (S.left script.old) (S.left script.new) result }
@@ -146,17 +152,16 @@ fn answer_lent<F: Files, S: Source>(
         → (result ≡ Err Fault.Usage) ⊎ (result ≡ Err Fault.Memory) }
 {
     let mut lent = Lent {
-        alloc,
         files,
         script,
-        kernel,
+        tools,
     };
     answer_words(&mut lent, words)
 }
 
 /// The answer to the words.
-fn answer_words<F: Files, S: Source>(
-    lent: &mut Lent<'_, '_, '_, F, S>,
+fn answer_words<T: Threads + Sync, F: Files, S: Source, G: Gate + Sync>(
+    lent: &mut Lent<'_, '_, '_, T, F, S, G>,
     words: &[String],
 ) -> Result<Reply, Fault>
     ensures same_files { lent.new.files.ghost_name ≡ lent.old.files.ghost_name }
@@ -165,9 +170,6 @@ fn answer_words<F: Files, S: Source>(
         (F.totals lent.old.files.now) (F.totals lent.new.files.now)
         (S.left lent.old.script.now) result
         (λ contents left. answer (map string_bytes words.now) contents left) }
-    ensures coded { IfOk result (λ _. IfSome (F.told lent.old.files.now) (λ told.
-        IfSome (request_of (map string_bytes words.now))
-        (λ request. HasCode request told.contents))) }
     ensures room { IfOk result HasRoom }
     ensures ended { asks_script (request_of (map string_bytes words.now)) ≡ true
         → EndsScript (S.left lent.old.script.now) (S.left lent.new.script.now) result }
@@ -184,13 +186,13 @@ fn answer_words<F: Files, S: Source>(
     ensures not_read { request_of (map string_bytes words.now) ≡ None
         → (result ≡ Err Fault.Usage) ⊎ (result ≡ Err Fault.Memory) }
 {
-    let request = read_words(lent.alloc, words)?;
+    let request = read_words(lent.tools.alloc, words)?;
     answer_request(lent, request)
 }
 
 /// The answer to a request.
-fn answer_request<F: Files, S: Source>(
-    lent: &mut Lent<'_, '_, '_, F, S>,
+fn answer_request<T: Threads + Sync, F: Files, S: Source, G: Gate + Sync>(
+    lent: &mut Lent<'_, '_, '_, T, F, S, G>,
     request: Request,
 ) -> Result<Reply, Fault>
     requires { IsRequest request }
@@ -199,8 +201,6 @@ fn answer_request<F: Files, S: Source>(
     ensures follows { FollowsWith output_of (F.told lent.old.files.now) (F.told lent.new.files.now)
         (F.totals lent.old.files.now) (F.totals lent.new.files.now) (S.left lent.old.script.now)
         result (λ contents left. command_answer contents left request) }
-    ensures coded { IfOk result (λ _. IfSome (F.told lent.old.files.now)
-        (λ told. HasCode request told.contents)) }
     ensures room { IfOk result HasRoom }
     ensures ended { asks_script (Some request) ≡ true
         → EndsScript (S.left lent.old.script.now) (S.left lent.new.script.now) result }
@@ -264,6 +264,7 @@ fn answer_request<F: Files, S: Source>(
                 plan,
             },
         ),
+        Request::Convert { matrix, image } => convert(lent, &ConvertWords { matrix, image }),
     }
 }
 

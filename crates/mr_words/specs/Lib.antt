@@ -8,3 +8,4 @@ pub mod Reads
 pub mod Texts
 pub mod Encode
 pub mod Rebuild
+pub mod Convert

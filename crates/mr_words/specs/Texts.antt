@@ -1,5 +1,5 @@
 -- What the texts of a command's names mean, by the kind of value: each of the texts that was given, or None.
-use Rattle.std.specs.Prelude.{ℕ, List, [], ◌∷◌, Option, Some, None, ◌==◌, ◌&&◌, nat_le, length, codes, if◌then◌else◌, option_map, bytes_eq, chars}
+use Rattle.std.specs.Prelude.{ℕ, List, [], ◌∷◌, Option, Some, None, ◌==◌, ◌&&◌, ◌≤◌, nat_le, length, codes, if◌then◌else◌, option_map, bytes_eq, chars}
 use Rattle.std.specs.List.{list_any}
 use Rattle.mr_text.specs.Numbers.{number_of}
 use Rattle.mr_words.specs.Grammar.{Text, ◌>>=◌}
@@ -45,6 +45,10 @@ number_or default low high (Some text) = number_between low high text
 -- the number of workers
 abbrev pub workers_of : Option Text → Option ℕ
 workers_of = number_or DEFAULT_WORKERS 1 WORKER_LIMIT
+
+-- a number of workers that a run may have
+abbrev pub IsWorkers : ℕ → Type 0
+IsWorkers workers = (1 ≤ workers) × (workers ≤ WORKER_LIMIT)
 
 -- the budget
 abbrev pub budget_of : Option Text → Option ℕ

@@ -5,6 +5,7 @@ ghost use Rattle.clap.specs.Words.{app_of, first_value, found_of};
 ghost use Rattle.mr_words.specs.Clap.{app_for};
 ghost use Rattle.mr_words.specs.Plan.{plan_from, plan_of, plan_syntax};
 ghost use Rattle.mr_words.specs.Reads.{Reads};
+ghost use Rattle.mr_words.specs.Texts.{IsWorkers};
 
 use crate::command::{command_for, parse};
 use crate::errors::WordsError;
@@ -28,7 +29,8 @@ pub struct PlanWords {
 
 /// Reads the words of `plan`, of which the first is `plan` itself and is not looked at.
 pub fn read_plan(alloc: Global, words: &[String]) -> Result<PlanWords, WordsError>
-    ensures { Reads (plan_of (drop 1 (map string_bytes words.now))) result }
+    ensures reads { Reads (plan_of (drop 1 (map string_bytes words.now))) result }
+    ensures workers { IfOk result (λ words. IsWorkers words.workers) }
 {
     let command = plan_command(alloc)?;
     let matches = parse(command, words)?;
@@ -36,7 +38,8 @@ pub fn read_plan(alloc: Global, words: &[String]) -> Result<PlanWords, WordsErro
 }
 
 fn plan_values(alloc: Global, matches: &ArgMatches) -> Result<PlanWords, WordsError>
-    ensures { Reads (plan_from (first_value (found_of matches.now))) result }
+    ensures reads { Reads (plan_from (first_value (found_of matches.now))) result }
+    ensures workers { IfOk result (λ words. IsWorkers words.workers) }
 {
     let matrix = file(alloc, matches, "matrix")?;
     let lost = lost(alloc, matches, "lost")?;

@@ -5,6 +5,7 @@ ghost use Rattle.clap.specs.Words.{app_of, first_value, found_of};
 ghost use Rattle.mr_words.specs.Clap.{app_for};
 ghost use Rattle.mr_words.specs.Reads.{Reads};
 ghost use Rattle.mr_words.specs.Rebuild.{rebuild_from, rebuild_of, rebuild_syntax};
+ghost use Rattle.mr_words.specs.Texts.{IsWorkers};
 
 use crate::command::{command_for, parse};
 use crate::errors::WordsError;
@@ -32,7 +33,8 @@ pub struct RebuildWords {
 
 /// Reads the words of `rebuild`, of which the first is `rebuild` itself and is not looked at.
 pub fn read_rebuild(alloc: Global, words: &[String]) -> Result<RebuildWords, WordsError>
-    ensures { Reads (rebuild_of (drop 1 (map string_bytes words.now))) result }
+    ensures reads { Reads (rebuild_of (drop 1 (map string_bytes words.now))) result }
+    ensures workers { IfOk result (λ words. IsWorkers words.workers) }
 {
     let command = rebuild_command(alloc)?;
     let matches = parse(command, words)?;
@@ -40,7 +42,8 @@ pub fn read_rebuild(alloc: Global, words: &[String]) -> Result<RebuildWords, Wor
 }
 
 fn rebuild_values(alloc: Global, matches: &ArgMatches) -> Result<RebuildWords, WordsError>
-    ensures { Reads (rebuild_from (first_value (found_of matches.now))) result }
+    ensures reads { Reads (rebuild_from (first_value (found_of matches.now))) result }
+    ensures workers { IfOk result (λ words. IsWorkers words.workers) }
 {
     let matrix = file(alloc, matches, "matrix")?;
     let image = file(alloc, matches, "image")?;

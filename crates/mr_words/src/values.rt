@@ -1,10 +1,10 @@
 //! Readers of the values that the matches of a command have, one for each kind of value.
 
-ghost use Rattle.std.specs.Prelude.{◌≡◌, ◌==◌, true, codes, chars, IfOk};
+ghost use Rattle.std.specs.Prelude.{◌≡◌, ◌==◌, ◌≤◌, true, codes, chars, IfOk};
 ghost use Rattle.std.specs.List.{list_any};
 ghost use Rattle.clap.specs.Words.{first_value, found_of};
 ghost use Rattle.mr_words.specs.Reads.{Reads, is_set};
-ghost use Rattle.mr_words.specs.Texts.{budget_of, code_of, file_of, file_or_none, lost_of, number_between, number_in, number_or, prime_of, primes_of, workers_of};
+ghost use Rattle.mr_words.specs.Texts.{budget_of, code_of, file_of, file_or_none, IsWorkers, lost_of, number_between, number_in, number_or, prime_of, primes_of, workers_of};
 
 use crate::code::Code;
 use crate::errors::WordsError;
@@ -68,7 +68,8 @@ pub fn number(matches: &ArgMatches, name: &str) -> Result<u32, WordsError>
 }
 
 fn number_between(text: &str, low: u32, high: u32) -> Result<u32, WordsError>
-    ensures { Reads (number_between low high text.now) result }
+    ensures reads { Reads (number_between low high text.now) result }
+    ensures range { IfOk result (λ number. (low ≤ number) × (number ≤ high)) }
 {
     match read_number(text.as_bytes()) {
         Some(number) if low <= number && number <= high => Ok(number),
@@ -85,8 +86,9 @@ pub fn number_or(
     low: u32,
     high: u32,
 ) -> Result<u32, WordsError>
-    ensures { Reads (number_or default low high (first_value (found_of matches.now) name.now))
-        result }
+    ensures reads { Reads (number_or default low high (first_value (found_of matches.now) name.now)) result }
+    ensures range { low ≤ default → default ≤ high
+        → IfOk result (λ number. (low ≤ number) × (number ≤ high)) }
 {
     match matches.get_str(name) {
         None => Ok(default),
@@ -96,7 +98,8 @@ pub fn number_or(
 
 /// The number of workers, of `--workers`: 1 to 64, and 4 where it is not given.
 pub fn workers(matches: &ArgMatches) -> Result<u32, WordsError>
-    ensures { Reads (workers_of (first_value (found_of matches.now) (codes "workers"))) result }
+    ensures reads { Reads (workers_of (first_value (found_of matches.now) (codes "workers"))) result }
+    ensures range { IfOk result IsWorkers }
 {
     number_or(matches, "workers", DEFAULT_WORKERS, 1, WORKER_LIMIT)
 }

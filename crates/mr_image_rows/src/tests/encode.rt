@@ -178,10 +178,10 @@ static STRIPES: Case = TWO;
 
 #[test]
 fn images(rt: HostRuntime) -> Result<(), Fail> {
-    check_cases(rt.alloc(), &IMAGES)?;
-    check_unread(rt.alloc(), &STRIPES, &READS)?;
-    check_unwritten(rt.alloc(), &STRIPES, &CUTS)?;
-    Ok(check_same(rt.alloc(), &STRIPES, &HARMLESS)?)
+    check_cases(&rt, rt.alloc(), &IMAGES)?;
+    check_unread(&rt, rt.alloc(), &STRIPES, &READS)?;
+    check_unwritten(&rt, rt.alloc(), &STRIPES, &CUTS)?;
+    Ok(check_same(&rt, rt.alloc(), &STRIPES, &HARMLESS)?)
 }
 
 /// A data file of each length.
@@ -201,7 +201,7 @@ fn sizes(rt: HostRuntime) -> Result<(), Fail> {
         let trial = Trial::of(rt.alloc(), &SIZED)?
             .by(rt.alloc(), line)?
             .ends(rt.alloc(), *status, b"", report.as_bytes())?;
-        check_trial(rt.alloc(), trial)?;
+        check_trial(&rt, rt.alloc(), trial)?;
     }
     Ok(())
 }
@@ -216,5 +216,5 @@ fn varied(rt: HostRuntime) -> Result<(), Fail> {
         .over(rt.alloc(), "d", &data)?
         .ends(rt.alloc(), 0, &image, b"")?
         .takes([55, 0, 0, 0, 192]);
-    Ok(check_trial(rt.alloc(), trial)?)
+    Ok(check_trial(&rt, rt.alloc(), trial)?)
 }

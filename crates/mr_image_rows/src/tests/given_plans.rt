@@ -41,7 +41,7 @@ fn valid(rt: HostRuntime) -> Result<(), Fail> {
             .over(rt.alloc(), "p", plan.as_bytes())?
             .ends(rt.alloc(), 0, &image, report.as_bytes())?
             .takes([*text, 32, *mend, 0, 48]);
-        check_trial(rt.alloc(), trial)?;
+        check_trial(&rt, rt.alloc(), trial)?;
     }
     Ok(())
 }
@@ -113,7 +113,7 @@ fn refused(rt: HostRuntime) -> Result<(), Fail> {
             .over(rt.alloc(), "p", plan.as_bytes())?
             .ends(rt.alloc(), 8, b"", report.as_bytes())?
             .takes([55 + plan.len() as u64, 0, 0, 0, 0]);
-        check_trial(rt.alloc(), trial)?;
+        check_trial(&rt, rt.alloc(), trial)?;
     }
     Ok(())
 }
@@ -194,6 +194,6 @@ static BY_PLAN: Case = GIVEN;
 
 #[test]
 fn given(rt: HostRuntime) -> Result<(), Fail> {
-    check_cases(rt.alloc(), &KINDS)?;
-    Ok(check_unread(rt.alloc(), &BY_PLAN, &READS)?)
+    check_cases(&rt, rt.alloc(), &KINDS)?;
+    Ok(check_unread(&rt, rt.alloc(), &BY_PLAN, &READS)?)
 }

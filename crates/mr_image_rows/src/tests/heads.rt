@@ -4,12 +4,13 @@ use mr_runs::{HEAD, LOST, Trial, check_trial, image_of};
 use std::alloc::Global;
 use std::process::Abort;
 use std::test::Fail;
+use std::thread::Threads;
 
 /// Bytes of a head at their places, the status and what is refused: a field that is not right, or a number above its limit.
 /// Where two are, the first of them is said.
 static HEADS: [(&[(usize, u8)], u8, &str); 26] = [
     (&[(0, b'm')], 5, "status 5 image head\n"),
-    (&[(7, b'2')], 5, "status 5 image head\n"),
+    (&[(7, b'3')], 5, "status 5 image head\n"),
     (&[(24, 1)], 5, "status 5 image head\n"),
     (&[(31, 1)], 5, "status 5 image head\n"),
     (&[(8, 3)], 5, "status 5 image shape\n"),
@@ -70,20 +71,26 @@ fn image_with(rt: &impl Abort, alloc: Global, places: &[(usize, u8)]) -> Result<
 }
 
 /// Asserts what is refused of an image file, of which these bytes of the head are read.
-fn check_image(alloc: Global, image: &[u8], fault: (u8, &str), head: u64) -> Result<(), Fail> {
+fn check_image<T: Threads + Sync>(
+    rt: &T,
+    alloc: Global,
+    image: &[u8],
+    fault: (u8, &str),
+    head: u64,
+) -> Result<(), Fail> {
     let trial = Trial::on_rdp_3(alloc)?
         .by(alloc, "rebuild m i 0")?
         .over(alloc, "i", image)?
         .ends(alloc, fault.0, b"", fault.1.as_bytes())?
         .takes([55, head, 0, 0, 0]);
-    Ok(check_trial(alloc, trial)?)
+    Ok(check_trial(rt, alloc, trial)?)
 }
 
 #[test]
 fn heads(rt: HostRuntime) -> Result<(), Fail> {
     for (places, status, report) in &HEADS {
         let image = image_with(&rt, rt.alloc(), places)?;
-        check_image(rt.alloc(), &image, (*status, report), 32)?;
+        check_image(&rt, rt.alloc(), &image, (*status, report), 32)?;
     }
     Ok(())
 }
@@ -104,7 +111,7 @@ fn lengths(rt: HostRuntime) -> Result<(), Fail> {
     image.push(0)?;
     for (count, report, head) in &LENGTHS {
         assert!(&rt; *count <= image.len());
-        check_image(rt.alloc(), &image[..*count], (5, report), *head)?;
+        check_image(&rt, rt.alloc(), &image[..*count], (5, report), *head)?;
     }
     Ok(())
 }

@@ -85,5 +85,5 @@ fn first_device(rt: HostRuntime) -> Result<(), Fail> {
     let trial = Trial::of(rt.alloc(), &ROOM_FOR_ALL)?
         .over(rt.alloc(), "i", &lost)?
         .ends(rt.alloc(), 0, &whole, REPORT.as_bytes())?;
-    Ok(check_trial(rt.alloc(), trial)?)
+    Ok(check_trial(&rt, rt.alloc(), trial)?)
 }

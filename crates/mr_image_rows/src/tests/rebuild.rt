@@ -171,9 +171,9 @@ static SMALL: [Case; 4] = [
 
 #[test]
 fn rebuilds(rt: HostRuntime) -> Result<(), Fail> {
-    check_cases(rt.alloc(), &ONE_DEVICE)?;
-    check_cases(rt.alloc(), &OTHERS)?;
-    Ok(check_cases(rt.alloc(), &SMALL)?)
+    check_cases(&rt, rt.alloc(), &ONE_DEVICE)?;
+    check_cases(&rt, rt.alloc(), &OTHERS)?;
+    Ok(check_cases(&rt, rt.alloc(), &SMALL)?)
 }
 
 /// The calls of the eyes of the matrix, the head, the mender, the replies and the survivors: the call for it, its length
@@ -300,11 +300,11 @@ static FIRST: Case = REBUILD;
 
 #[test]
 fn failing(rt: HostRuntime) -> Result<(), Fail> {
-    check_unread(rt.alloc(), &FIRST, &READS)?;
-    check_unwritten(rt.alloc(), &FIRST, &OUT_CUTS)?;
-    check_unreported(rt.alloc(), &FIRST, &REPORT_CUTS)?;
-    check_same(rt.alloc(), &FIRST, &HARMLESS)?;
-    Ok(check_cases(rt.alloc(), &LINES)?)
+    check_unread(&rt, rt.alloc(), &FIRST, &READS)?;
+    check_unwritten(&rt, rt.alloc(), &FIRST, &OUT_CUTS)?;
+    check_unreported(&rt, rt.alloc(), &FIRST, &REPORT_CUTS)?;
+    check_same(&rt, rt.alloc(), &FIRST, &HARMLESS)?;
+    Ok(check_cases(&rt, rt.alloc(), &LINES)?)
 }
 
 /// What a rebuild of three stripes without the second device with data reports.
@@ -321,5 +321,5 @@ fn varied(rt: HostRuntime) -> Result<(), Fail> {
         .over(rt.alloc(), "i", &lost)?
         .ends(rt.alloc(), 0, &whole, VARIED)?
         .takes([55, 32, 144, 0, 288]);
-    Ok(check_trial(rt.alloc(), trial)?)
+    Ok(check_trial(&rt, rt.alloc(), trial)?)
 }

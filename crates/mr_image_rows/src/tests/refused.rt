@@ -119,7 +119,7 @@ fn refused(rt: HostRuntime) -> Result<(), Fail> {
             .ends(rt.alloc(), *status, b"", report.as_bytes())?
             .takes([*read, head, 0, 0, 0]);
         trial.faults = [u64::from(*status == 9), 0, 0, 0];
-        check_trial(rt.alloc(), trial)?;
+        check_trial(&rt, rt.alloc(), trial)?;
     }
     Ok(())
 }

@@ -6,6 +6,7 @@ use mr_runs::{Bytes, Trial, check_trial};
 use std::alloc::Global;
 use std::process::Abort;
 use std::test::Fail;
+use std::thread::Threads;
 
 /// The lost devices, the text of a plan, the status, what is written and reported, and the bytes of texts that are read.
 type Check = (
@@ -172,7 +173,7 @@ static CHECKS: [Check; 22] = [
 ];
 
 /// Asserts what `check` answers.
-fn check_check(alloc: Global, check: &Check) -> Result<(), Fail> {
+fn check_check<T: Threads + Sync>(rt: &T, alloc: Global, check: &Check) -> Result<(), Fail> {
     let (lost, plan, status, out, report, read) = check;
     let line = format!(in alloc; "check m {lost} p")?;
     let trial = Trial::on_rdp_3(alloc)?
@@ -180,13 +181,13 @@ fn check_check(alloc: Global, check: &Check) -> Result<(), Fail> {
         .over(alloc, "p", plan.as_bytes())?
         .ends(alloc, *status, out.as_bytes(), report.as_bytes())?
         .takes([*read, 0, 0, 0, 0]);
-    Ok(check_trial(alloc, trial)?)
+    Ok(check_trial(rt, alloc, trial)?)
 }
 
 #[test]
 fn checks(rt: HostRuntime) -> Result<(), Fail> {
     for check in &CHECKS {
-        check_check(rt.alloc(), check)?;
+        check_check(&rt, rt.alloc(), check)?;
     }
     Ok(())
 }
@@ -234,7 +235,12 @@ static BAD_LINES: [(Bytes, u32); 37] = [
 ];
 
 /// Asserts that the bytes of a plan file are refused at a line.
-fn assert_line(rt: &impl Abort, alloc: Global, plan: &[u8], line: u32) -> Result<(), Fail> {
+fn assert_line<T: Abort + Threads + Sync>(
+    rt: &T,
+    alloc: Global,
+    plan: &[u8],
+    line: u32,
+) -> Result<(), Fail> {
     let report = format!(in alloc; "status 8 plan line {line}\n")?;
     assert!(rt; plan.len() < 100);
     let trial = Trial::on_rdp_3(alloc)?
@@ -242,7 +248,7 @@ fn assert_line(rt: &impl Abort, alloc: Global, plan: &[u8], line: u32) -> Result
         .over(alloc, "p", plan)?
         .ends(alloc, 8, b"", report.as_bytes())?
         .takes([55 + plan.len() as u64, 0, 0, 0, 0]);
-    Ok(check_trial(alloc, trial)?)
+    Ok(check_trial(rt, alloc, trial)?)
 }
 
 #[test]

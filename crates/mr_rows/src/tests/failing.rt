@@ -221,13 +221,13 @@ static CHECK: Case = VALID;
 
 #[test]
 fn failing(rt: HostRuntime) -> Result<(), Fail> {
-    check_unread(rt.alloc(), &SPENT, &MATRIX_READS)?;
-    check_unread(rt.alloc(), &CHECK, &MATRIX_READS)?;
-    check_unread(rt.alloc(), &CHECK, &PLAN_READS)?;
-    check_unwritten(rt.alloc(), &SPENT, &OUT_CUTS)?;
-    check_unwritten(rt.alloc(), &CHECK, &VALID_CUTS)?;
-    check_unreported(rt.alloc(), &SPENT, &REPORT_CUTS)?;
-    check_same(rt.alloc(), &SPENT, &HARMLESS)?;
-    check_cases(rt.alloc(), &LINES)?;
-    Ok(check_cases(rt.alloc(), &OTHERS)?)
+    check_unread(&rt, rt.alloc(), &SPENT, &MATRIX_READS)?;
+    check_unread(&rt, rt.alloc(), &CHECK, &MATRIX_READS)?;
+    check_unread(&rt, rt.alloc(), &CHECK, &PLAN_READS)?;
+    check_unwritten(&rt, rt.alloc(), &SPENT, &OUT_CUTS)?;
+    check_unwritten(&rt, rt.alloc(), &CHECK, &VALID_CUTS)?;
+    check_unreported(&rt, rt.alloc(), &SPENT, &REPORT_CUTS)?;
+    check_same(&rt, rt.alloc(), &SPENT, &HARMLESS)?;
+    check_cases(&rt, rt.alloc(), &LINES)?;
+    Ok(check_cases(&rt, rt.alloc(), &OTHERS)?)
 }

@@ -5,6 +5,7 @@ use mr_runs::Bytes::{Raw, Text};
 use mr_runs::{Bytes, Trial, check_trial};
 use std::alloc::Global;
 use std::test::Fail;
+use std::thread::Threads;
 
 /// Wrong first lines.
 const HEADS: &str = "matrix 1 04 2 4
@@ -112,24 +113,30 @@ static FAULTS: [(Bytes, u8, &str); 38] = [
 ];
 
 /// Asserts what is refused of the bytes of a matrix file. Device 9 is none, so that a matrix is refused before it.
-fn check_fault(alloc: Global, bytes: &[u8], status: u8, fault: &str) -> Result<(), Fail> {
+fn check_fault<T: Threads + Sync>(
+    rt: &T,
+    alloc: Global,
+    bytes: &[u8],
+    status: u8,
+    fault: &str,
+) -> Result<(), Fail> {
     let report = format!(in alloc; "status {status} {fault}\n")?;
     let trial = Trial::bare(alloc)?
         .by(alloc, "plan m 9")?
         .over(alloc, "m", bytes)?
         .ends(alloc, status, b"", report.as_bytes())?
         .takes([bytes.len() as u64, 0, 0, 0, 0]);
-    Ok(check_trial(alloc, trial)?)
+    Ok(check_trial(rt, alloc, trial)?)
 }
 
 #[test]
 fn faults(rt: HostRuntime) -> Result<(), Fail> {
     for (text, status, fault) in &FAULTS {
         let bytes = text.listed(rt.alloc())?;
-        check_fault(rt.alloc(), &bytes, *status, fault)?;
+        check_fault(&rt, rt.alloc(), &bytes, *status, fault)?;
     }
     for head in HEADS.split_inclusive('\n') {
-        check_fault(rt.alloc(), head.as_bytes(), 2, "matrix line 1 head")?;
+        check_fault(&rt, rt.alloc(), head.as_bytes(), 2, "matrix line 1 head")?;
     }
     Ok(())
 }
@@ -166,7 +173,7 @@ fn largest(rt: HostRuntime) -> Result<(), Fail> {
             .over(rt.alloc(), "m", matrix.as_bytes())?
             .ends(rt.alloc(), 0, out.as_bytes(), report.as_bytes())?
             .takes([273, 0, 0, 0, 0]);
-        check_trial(rt.alloc(), trial)?;
+        check_trial(&rt, rt.alloc(), trial)?;
     }
     Ok(())
 }

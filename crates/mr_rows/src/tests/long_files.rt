@@ -59,7 +59,7 @@ fn long_files(rt: HostRuntime) -> Result<(), Fail> {
             .over(rt.alloc(), "x", &text)?
             .ends(rt.alloc(), *status, b"", report.as_bytes())?
             .takes([*read, 0, 0, 0, 0]);
-        check_trial(rt.alloc(), trial)?;
+        check_trial(&rt, rt.alloc(), trial)?;
     }
     Ok(())
 }

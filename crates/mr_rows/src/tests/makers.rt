@@ -2,10 +2,12 @@
 
 use crate::tests::rows::{Row, check_rows};
 use mr_fixture::{RDP_3, RDP_5, shown};
-use mr_runs::{Bytes, Trial, run_by};
+use mr_io::OpenGate;
+use mr_runs::{Bytes, Given, Trial, run_by};
 use std::alloc::Global;
 use std::process::Abort;
 use std::test::Fail;
+use std::thread::Threads;
 
 /// No file is read.
 const NONE: Bytes = Bytes::Text("");
@@ -92,8 +94,8 @@ static MADE: [Made; 8] = [
 ];
 
 /// What the words of a line write and report over this matrix, where their status is 0.
-fn answer_of(
-    rt: &impl Abort,
+fn answer_of<T: Abort + Threads + Sync>(
+    rt: &T,
     alloc: Global,
     matrix: &[u8],
     line: &str,
@@ -102,7 +104,12 @@ fn answer_of(
         .by(alloc, line)?
         .over(alloc, "m", matrix)?;
     let words = trial.words;
-    let ran = run_by(alloc, &words, trial.files, trial.script, trial.schedule)?;
+    let given = Given {
+        files: trial.files,
+        script: trial.script,
+        schedule: trial.schedule,
+    };
+    let ran = run_by(rt, alloc, &words, given, &OpenGate)?;
     assert_eq!(rt; ran.status, 0, "the status of {line}");
     Ok((ran.out, ran.report))
 }
@@ -110,7 +117,7 @@ fn answer_of(
 /// The matrices that are printed are read back.
 #[test]
 fn makers(rt: HostRuntime) -> Result<(), Fail> {
-    check_rows(rt.alloc(), &WHOLE)?;
+    check_rows(&rt, rt.alloc(), &WHOLE)?;
     for (maker, first, line, head, report) in &MADE {
         let (matrix, _) = answer_of(&rt, rt.alloc(), b"", maker)?;
         assert!(&rt;

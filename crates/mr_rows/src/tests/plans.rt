@@ -343,8 +343,8 @@ static OTHER_MATRICES: [Row; 7] = [
 
 #[test]
 fn plans(rt: HostRuntime) -> Result<(), Fail> {
-    check_rows(rt.alloc(), &BUDGETS)?;
-    check_rows(rt.alloc(), &LOSSES)?;
-    check_rows(rt.alloc(), &REFUSALS)?;
-    check_rows(rt.alloc(), &OTHER_MATRICES)
+    check_rows(&rt, rt.alloc(), &BUDGETS)?;
+    check_rows(&rt, rt.alloc(), &LOSSES)?;
+    check_rows(&rt, rt.alloc(), &REFUSALS)?;
+    check_rows(&rt, rt.alloc(), &OTHER_MATRICES)
 }

@@ -214,9 +214,9 @@ static REBUILDS: [Case; 3] = [
 
 #[test]
 fn prices(rt: HostRuntime) -> Result<(), Fail> {
-    check_rows(rt.alloc(), &PLANS)?;
-    check_rows(rt.alloc(), &REFUSALS)?;
-    Ok(check_cases(rt.alloc(), &REBUILDS)?)
+    check_rows(&rt, rt.alloc(), &PLANS)?;
+    check_rows(&rt, rt.alloc(), &REFUSALS)?;
+    Ok(check_cases(&rt, rt.alloc(), &REBUILDS)?)
 }
 
 /// Each proper prefix of the text is refused at the line that is missing or has no line feed.
@@ -232,7 +232,7 @@ fn prefixes(rt: HostRuntime) -> Result<(), Fail> {
             .over(rt.alloc(), "m", &text[..count])?
             .ends(rt.alloc(), 2, b"", report.as_bytes())?
             .takes([count as u64, 0, 0, 0, 0]);
-        check_trial(rt.alloc(), trial)?;
+        check_trial(&rt, rt.alloc(), trial)?;
         is_missing = text[count] == b'\n';
         if is_missing && line < 19 {
             line += 1;

@@ -7,6 +7,7 @@ use mr_runs::{
 };
 use std::alloc::Global;
 use std::test::Fail;
+use std::thread::Threads;
 
 /// Words that are refused, in lines: commands that are none, the help words among them.
 const COMMANDS: &str = "--help
@@ -241,32 +242,32 @@ static USAGE: Case = Case {
 };
 
 /// Asserts that the words are refused.
-fn check_usage(alloc: Global, words: Vec<String>) -> Result<(), Fail> {
+fn check_usage<T: Threads + Sync>(rt: &T, alloc: Global, words: Vec<String>) -> Result<(), Fail> {
     let mut trial = Trial::of(alloc, &USAGE)?;
     trial.words = words;
-    Ok(check_trial(alloc, trial)?)
+    Ok(check_trial(rt, alloc, trial)?)
 }
 
 /// Asserts that the words of each line are refused.
-fn check_usages(alloc: Global, lines: &str) -> Result<(), Fail> {
+fn check_usages<T: Threads + Sync>(rt: &T, alloc: Global, lines: &str) -> Result<(), Fail> {
     for line in lines.split('\n') {
-        check_usage(alloc, words_in(alloc, line)?)?;
+        check_usage(rt, alloc, words_in(alloc, line)?)?;
     }
     Ok(())
 }
 
 #[test]
 fn refusals(rt: HostRuntime) -> Result<(), Fail> {
-    check_usages(rt.alloc(), COMMANDS)?;
-    check_usages(rt.alloc(), PLACES)?;
-    check_usages(rt.alloc(), LOST)?;
-    check_usages(rt.alloc(), VALUES)?;
-    check_usages(rt.alloc(), OPTIONS)?;
-    check_usages(rt.alloc(), MAKERS)?;
-    check_usages(rt.alloc(), ENCODE)?;
-    check_usages(rt.alloc(), REBUILD)?;
+    check_usages(&rt, rt.alloc(), COMMANDS)?;
+    check_usages(&rt, rt.alloc(), PLACES)?;
+    check_usages(&rt, rt.alloc(), LOST)?;
+    check_usages(&rt, rt.alloc(), VALUES)?;
+    check_usages(&rt, rt.alloc(), OPTIONS)?;
+    check_usages(&rt, rt.alloc(), MAKERS)?;
+    check_usages(&rt, rt.alloc(), ENCODE)?;
+    check_usages(&rt, rt.alloc(), REBUILD)?;
     for words in &ODD {
-        check_usage(rt.alloc(), words_of(rt.alloc(), words)?)?;
+        check_usage(&rt, rt.alloc(), words_of(rt.alloc(), words)?)?;
     }
     Ok(())
 }
@@ -319,5 +320,5 @@ static NAMES: [Case; 7] = [
 
 #[test]
 fn names(rt: HostRuntime) -> Result<(), Fail> {
-    Ok(check_cases(rt.alloc(), &NAMES)?)
+    Ok(check_cases(&rt, rt.alloc(), &NAMES)?)
 }

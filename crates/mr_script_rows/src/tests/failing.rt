@@ -52,7 +52,7 @@ fn scripts(rt: HostRuntime) -> Result<(), Fail> {
             .ends(rt.alloc(), 9, b"", b"status 9 read\n")?
             .takes([55, 32, 0, 0, 0]);
         trial.left = *left;
-        check_trial(rt.alloc(), trial)?;
+        check_trial(&rt, rt.alloc(), trial)?;
     }
     Ok(())
 }
@@ -64,7 +64,7 @@ static SLOW: [usize; 6] = [1, 2, 3, 5, 16, 17];
 fn slow_scripts(rt: HostRuntime) -> Result<(), Fail> {
     for most in &SLOW {
         let trial = Trial::of(rt.alloc(), &ASKED)?.gives(*most, &[], [0; 4]);
-        check_trial(rt.alloc(), trial)?;
+        check_trial(&rt, rt.alloc(), trial)?;
     }
     Ok(())
 }
@@ -91,7 +91,7 @@ static CUTS: [Cut; 6] = [
 
 #[test]
 fn replies(rt: HostRuntime) -> Result<(), Fail> {
-    check_case(rt.alloc(), &ASKED)?;
-    check_unread(rt.alloc(), &ASKED, &READS)?;
-    Ok(check_unreported(rt.alloc(), &ASKED, &CUTS)?)
+    check_case(&rt, rt.alloc(), &ASKED)?;
+    check_unread(&rt, rt.alloc(), &ASKED, &READS)?;
+    Ok(check_unreported(&rt, rt.alloc(), &ASKED, &CUTS)?)
 }

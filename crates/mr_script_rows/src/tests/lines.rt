@@ -5,6 +5,7 @@ use mr_runs::Bytes::{Image, Text};
 use mr_runs::{AT_ONCE, Case, Gives, HEAD, LOST, REBUILD, SOUND, Schedule, Trial, check_trial};
 use std::alloc::Global;
 use std::test::Fail;
+use std::thread::Threads;
 
 /// Scripts, and the number of the first line that is not of its form, for an image of one stripe of eight symbols.
 static REFUSED: [(&str, u32); 44] = [
@@ -60,19 +61,24 @@ static REFUSED: [(&str, u32); 44] = [
 ];
 
 /// Asserts that the script is refused at this line. Nothing is written, and the script was read to its end.
-fn check_refused(alloc: Global, script: &[u8], line: u32) -> Result<(), Fail> {
+fn check_refused<T: Threads + Sync>(
+    rt: &T,
+    alloc: Global,
+    script: &[u8],
+    line: u32,
+) -> Result<(), Fail> {
     let report = format!(in alloc; "status 6 script line {line}\n")?;
     let trial = Trial::rebuild(alloc)?
         .asks(alloc, script)?
         .ends(alloc, 6, b"", report.as_bytes())?
         .takes([55, 32, 0, 0, 0]);
-    Ok(check_trial(alloc, trial)?)
+    Ok(check_trial(rt, alloc, trial)?)
 }
 
 #[test]
 fn refused(rt: HostRuntime) -> Result<(), Fail> {
     for (text, line) in &REFUSED {
-        check_refused(rt.alloc(), text.as_bytes(), *line)?;
+        check_refused(&rt, rt.alloc(), text.as_bytes(), *line)?;
     }
     Ok(())
 }
@@ -84,7 +90,7 @@ fn fronts(rt: HostRuntime) -> Result<(), Fail> {
     let mut line = 1;
     for count in 0..text.len() {
         if count % 4 != 0 {
-            check_refused(rt.alloc(), &text[..count], line)?;
+            check_refused(&rt, rt.alloc(), &text[..count], line)?;
         }
         if text[count] == b'\n' && line < 9 {
             line += 1;
@@ -269,7 +275,7 @@ fn order(rt: HostRuntime) -> Result<(), Fail> {
             .failing(eyes, [u64::from(*status == 9), 0, 0, 0])
             .ends(rt.alloc(), *status, b"", report.as_bytes())?
             .takes([*text, *head, 0, 0, 0]);
-        check_trial(rt.alloc(), trial)?;
+        check_trial(&rt, rt.alloc(), trial)?;
     }
     for eyes in &BEHIND {
         let trial = Trial::of(rt.alloc(), &BAD)?
@@ -277,7 +283,7 @@ fn order(rt: HostRuntime) -> Result<(), Fail> {
             .failing(eyes, [0, 1, 0, 0])
             .ends(rt.alloc(), 9, b"", b"status 9 read\n")?
             .takes([98, 32, 0, 0, 0]);
-        check_trial(rt.alloc(), trial)?;
+        check_trial(&rt, rt.alloc(), trial)?;
     }
     Ok(())
 }

@@ -135,7 +135,7 @@ fn replies(rt: HostRuntime) -> Result<(), Fail> {
                 report.as_bytes(),
             )?
             .takes([55, 32, 24, *live, 48]);
-        check_trial(rt.alloc(), trial)?;
+        check_trial(&rt, rt.alloc(), trial)?;
     }
     Ok(())
 }

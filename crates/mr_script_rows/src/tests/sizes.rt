@@ -34,7 +34,7 @@ fn script_bytes(rt: HostRuntime) -> Result<(), Fail> {
             .ends(rt.alloc(), 3, b"", b"status 3 large scriptbytes 1048577\n")?
             .takes([55, 32, 0, 0, 0]);
         trial.left = *left;
-        check_trial(rt.alloc(), trial)?;
+        check_trial(&rt, rt.alloc(), trial)?;
     }
     Ok(())
 }
@@ -55,7 +55,7 @@ fn most_script_bytes(rt: HostRuntime) -> Result<(), Fail> {
     trial.script = repeated(rt.alloc(), "0 1\n", 262_144, "")?;
     let replies = repeated(rt.alloc(), "reply 0 1 0202020202020202\n", 262_144, "")?;
     trial.report.extend_from_slice(&replies)?;
-    Ok(check_trial(rt.alloc(), trial)?)
+    Ok(check_trial(&rt, rt.alloc(), trial)?)
 }
 
 /// The head of an image of one stripe of eight symbols, of the most bytes.
@@ -81,7 +81,7 @@ fn reply_bytes(rt: HostRuntime) -> Result<(), Fail> {
             .asks(rt.alloc(), &script)?
             .ends(rt.alloc(), *status, b"", report.as_bytes())?
             .takes([55, 32, 0, 0, 0]);
-        check_trial(rt.alloc(), trial)?;
+        check_trial(&rt, rt.alloc(), trial)?;
     }
     Ok(())
 }

@@ -94,7 +94,7 @@ fn replies(rt: HostRuntime) -> Result<(), Fail> {
             .asks(rt.alloc(), script.as_bytes())?
             .ends(rt.alloc(), 0, &whole, report.as_bytes())?
             .takes([55, 32, 144, *live, 288]);
-        check_trial(rt.alloc(), trial)?;
+        check_trial(&rt, rt.alloc(), trial)?;
     }
     Ok(())
 }
@@ -116,7 +116,7 @@ fn refused(rt: HostRuntime) -> Result<(), Fail> {
             .asks(rt.alloc(), script.as_bytes())?
             .ends(rt.alloc(), 6, b"", report.as_bytes())?
             .takes([55, 32, 0, 0, 0]);
-        check_trial(rt.alloc(), trial)?;
+        check_trial(&rt, rt.alloc(), trial)?;
     }
     Ok(())
 }

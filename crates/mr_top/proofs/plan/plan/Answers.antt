@@ -6,7 +6,6 @@ use Rattle.mr_steps.specs.Readings.{given}
 use Rattle.mr_top.specs.Replies.{output_of}
 use Rattle.mr_steps.proofs.Chains.{reads_err, reads_given, reads_then}
 use Rattle.mr_steps.proofs.Growing.{grows_given, grows_then}
-use Rattle.mr_top.proofs.RunAnswers.{code-known, if-ok}
 use Rattle.mr_top.proofs.plan.plan.Goals as goal
 
 pub returns-in_err-matrix-clause-reads : goal.returns-in_err-matrix-clause-reads
@@ -28,6 +27,3 @@ returns-clause-totals g c = grows_then (λ m. m) _ _ _ _ _ c.in_ok-matrix.matrix
     (λ contents. matrix_file contents c.args.words.now.matrix) (λ contents m. given (plan_given c.args.words.now.budget m c.args.words.now.lost))
     c.in_ok-matrix.ensures.reads c.in_ok-matrix.ensures.totals
     (grows_given _ _ _ (plan_given c.args.words.now.budget c.in_ok-matrix.matrix c.args.words.now.lost))
-
-pub returns-clause-coded : goal.returns-clause-coded
-returns-clause-coded g c = if-ok c.plan_of.result (code-known _ _ c.in_ok-matrix.matrix c.args.words.now.matrix c.in_ok-matrix.ensures.code c.in_ok-matrix.ensures.reads)

@@ -4,28 +4,28 @@ use Rattle.mr_eq.specs.Problems.{Loss}
 use Rattle.mr_top.specs.Plan.{plan_given, plan_output}
 use Rattle.mr_steps.specs.Losses.{targets_given}
 use Rattle.mr_top.specs.Replies.{output_of}
-use Rattle.mr_top.specs.declared.chosen.ChosenPlan.{ChosenPlan}
+use Rattle.mr_choices.specs.declared.chosen.ChosenPlan.{ChosenPlan}
 use Rattle.mr_top.specs.declared.reply.Reply.TheVariants.{Plan}
 use Rattle.mr_steps.proofs.Chains.{gives_err, gives_then}
 use Rattle.mr_top.proofs.plan.plan_of.Goals as goal
 
 pub returns-in_err-problem-clause-given : goal.returns-in_err-problem-clause-given
 unfolding plan_given
-returns-in_err-problem-clause-given c =
+returns-in_err-problem-clause-given g c =
     let p = err_from_is_err_and c.from_residual.result c.from_residual.ensures.1 in
-    rw (p.1, p.2) (gives_err (λ (problem : Loss). problem.targets) output_of _ (targets_given c.args.matrix.now c.args.words.now.lost)
-    (λ targets. Ok (plan_output c.args.words.now.budget c.args.matrix.now targets)) c.in_err-problem.ensures.given)
+    rw (p.1, p.2) (gives_err (λ (problem : Loss). problem.targets) output_of _ (targets_given c.args.matrix.now c.args.lost.now)
+    (λ targets. Ok (plan_output c.args.choosing.now.budget c.args.matrix.now targets)) c.in_err-problem.ensures.given)
 
 pub returns-in_err-chosen-clause-given : goal.returns-in_err-chosen-clause-given
-returns-in_err-chosen-clause-given c =
+returns-in_err-chosen-clause-given g c =
     let p = err_from_is_err_and c.from_residual-in_err-chosen.result c.from_residual-in_err-chosen.ensures.1 in
     rw (p.1, p.2) (λ foreseen. absurd (foreseen.2 refl))
 
-pub chosen_plan-requires : goal.chosen_plan-requires
-chosen_plan-requires c = record { loss = c.in_ok-problem.ensures.loss }
+pub chosen_plan-requires-clause-loss : goal.chosen_plan-requires-clause-loss
+chosen_plan-requires-clause-loss g c κs within = c.in_ok-problem.ensures.loss
 
 pub returns-clause-given : goal.returns-clause-given
 unfolding plan_given
-returns-clause-given c = gives_then (λ (problem : Loss). problem.targets) output_of c.in_ok-problem.problem (Ok (Plan c.in_ok-chosen.chosen))
-    (targets_given c.args.matrix.now c.args.words.now.lost) (λ targets. Ok (plan_output c.args.words.now.budget c.args.matrix.now targets))
+returns-clause-given g c = gives_then (λ (problem : Loss). problem.targets) output_of c.in_ok-problem.problem (Ok (Plan c.in_ok-chosen.chosen))
+    (targets_given c.args.matrix.now c.args.lost.now) (λ targets. Ok (plan_output c.args.choosing.now.budget c.args.matrix.now targets))
     c.in_ok-problem.ensures.given (ap (λ (chosen : ChosenPlan). Ok (output_of (Plan chosen))) (sym c.in_ok-chosen.ensures.chosen))

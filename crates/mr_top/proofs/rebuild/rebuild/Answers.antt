@@ -2,14 +2,13 @@ use Rattle.mr_io.proofs.Consuming.{front_none}
 use Rattle.std.proofs.Common.{◌+◌, [], subst, sym}
 use Rattle.mr_io.specs.Reading.{ReadsFront}
 use Rattle.std.proofs.lemmas.Result.{err_from_is_err_and}
-use Rattle.mr_top.specs.RebuildSteps.{image_read, rebuild_answer}
+use Rattle.mr_top.specs.RebuildSteps.{image_read, parts_of, rebuild_answer}
 use Rattle.mr_mend.specs.Scripts.{script_limit}
 use Rattle.mr_top.specs.Rebuild.{image_accepted}
 use Rattle.mr_top.specs.Replies.{output_of}
 use Rattle.mr_steps.specs.Steps.{EndsScript}
 use Rattle.mr_top.proofs.Accepting.{image-tells}
 use Rattle.mr_top.proofs.ImageSteps.{asks-err, asks-then, asks_next}
-use Rattle.mr_top.proofs.RunAnswers.{code-of-image, if-ok}
 use Rattle.mr_top.proofs.WithScript.{kept-value, on-ok, with-err}
 use Rattle.mr_top.proofs.rebuild.rebuild.Goals as goal
 
@@ -17,7 +16,7 @@ pub returns-in_err-read-clause-follows : goal.returns-in_err-read-clause-follows
 unfolding rebuild_answer
 returns-in_err-read-clause-follows g c =
     let p = err_from_is_err_and c.from_residual.result c.from_residual.ensures.1 in
-    rw (p.1, p.2) (with-err (λ read. read) output_of _ _ _ _ _ _ (λ contents. image_read contents c.args.words.now)
+    rw (p.1, p.2) (with-err parts_of output_of _ _ _ _ _ _ (λ contents. image_read contents c.args.words.now)
     (λ contents left read. asks_next contents left c.args.words.now read) c.in_err-read.ensures.reads)
 
 pub returns-in_err-asks-clause-follows : goal.returns-in_err-asks-clause-follows
@@ -26,7 +25,7 @@ returns-in_err-asks-clause-follows g c =
     rw (p.1, p.2) (asks-err c.args.words.now _ _ _ _ _ c.in_ok-read.read c.in_ok-read.ensures.reads c.in_ok-read.ensures.totals _ c.in_err-asks.ensures.given)
 
 pub returns-in_err-asks-clause-kept : goal.returns-in_err-asks-clause-kept
-returns-in_err-asks-clause-kept g c = kept-value (λ read. read) _ _ c.in_ok-read.read (λ contents. image_read contents c.args.words.now)
+returns-in_err-asks-clause-kept g c = kept-value parts_of _ _ c.in_ok-read.read (λ contents. image_read contents c.args.words.now)
     (λ contents. image_accepted contents c.args.words.now) _ _ (λ contents. image-tells contents [] c.args.words.now) c.in_ok-read.ensures.reads
 
 pub returns-clause-follows : goal.returns-clause-follows
@@ -34,15 +33,12 @@ returns-clause-follows g c = asks-then c.args.words.now _ _ _ _ _ c.in_ok-read.r
     c.in_ok-asks.ensures.given c.rebuild_read.ensures.reads c.rebuild_read.ensures.totals
 
 pub returns-clause-kept : goal.returns-clause-kept
-returns-clause-kept g c = kept-value (λ read. read) _ _ c.in_ok-read.read (λ contents. image_read contents c.args.words.now)
+returns-clause-kept g c = kept-value parts_of _ _ c.in_ok-read.read (λ contents. image_read contents c.args.words.now)
     (λ contents. image_accepted contents c.args.words.now) _ _ (λ contents. image-tells contents [] c.args.words.now) c.in_ok-read.ensures.reads
 
 pub returns-clause-ended : goal.returns-clause-ended
 returns-clause-ended g c = subst (λ s. EndsScript (g.S.Source.left c.args.lent.now.script.now) (g.S.Source.left s) c.rebuild_read.result) (sym c.rebuild_read.ensures.kept)
     (on-ok c.rebuild_read.result _ c.in_ok-asks.ensures.ended)
-
-pub returns-clause-coded : goal.returns-clause-coded
-returns-clause-coded g c = if-ok c.rebuild_read.result (code-of-image _ _ c.in_ok-read.read c.args.words.now c.in_ok-read.ensures.sound.code c.in_ok-read.ensures.reads)
 
 pub returns-in_err-read-clause-script_front : goal.returns-in_err-read-clause-script_front
 returns-in_err-read-clause-script_front g c = front_none _ _

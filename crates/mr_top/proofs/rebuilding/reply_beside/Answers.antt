@@ -8,35 +8,36 @@ use Rattle.mr_top.specs.Replies.{mended_view}
 use Rattle.mr_steps.proofs.Chains.{reads_held, reads_named, reads_no_eye}
 use Rattle.mr_steps.proofs.Growing.{grows_held, grows_named}
 use Rattle.mr_top.proofs.RebuildSteps.{held-lent}
+use Rattle.mr_plan.specs.PlanLists.{recipes_at}
 use Rattle.mr_top.proofs.rebuilding.reply_beside.Goals as goal
 
 pub returns-in_err-reader-clause-reads : goal.returns-in_err-reader-clause-reads
 unfolding replied_image
 returns-in_err-reader-clause-reads g c =
     let p = err_from_is_err_and c.from_residual.result c.from_residual.ensures.1 in
-    rw p.1 (reads_named mended_view _ _ _ (λ name contents. replied_image contents name (copied_set c.args.mending.now.rebuild.head.now c.args.mending.now.rebuild.plan.now.recipes) c.args.mending.now.rebuild.head.now c.args.mending.now.rebuild.plan.now c.args.mending.now.rebuild.asks.now) c.as_str.ensures.characters
-    (reads_no_eye mended_view _ _ (λ _. live_reads c.args.mending.now.rebuild.head.now c.args.mending.now.rebuild.plan.now.recipes c.args.mending.now.rebuild.asks.now) (chars c.as_str.result.now) Live
-    (λ contents _. copied_image contents (chars c.as_str.result.now) (copied_set c.args.mending.now.rebuild.head.now c.args.mending.now.rebuild.plan.now.recipes) c.args.mending.now.rebuild.head.now c.args.mending.now.rebuild.plan.now c.args.mending.now.rebuild.asks.now) _ _
+    rw p.1 (reads_named mended_view _ _ _ (λ name contents. replied_image contents name (copied_set c.args.mending.now.rebuild.head.now (recipes_at c.args.mending.now.rebuild.plans.now 0)) c.args.mending.now.rebuild.head.now c.args.mending.now.rebuild.plans.now c.args.mending.now.rebuild.asks.now) c.as_str.ensures.characters
+    (reads_no_eye mended_view _ _ (λ _. live_reads c.args.mending.now.rebuild.head.now (recipes_at c.args.mending.now.rebuild.plans.now) c.args.mending.now.rebuild.asks.now) (chars c.as_str.result.now) Live
+    (λ contents _. copied_image contents (chars c.as_str.result.now) (copied_set c.args.mending.now.rebuild.head.now (recipes_at c.args.mending.now.rebuild.plans.now 0)) c.args.mending.now.rebuild.head.now c.args.mending.now.rebuild.plans.now c.args.mending.now.rebuild.asks.now) _ _
     c.in_err-reader.ensures.failed c.in_err-reader.ensures.memory p.2))
 
 pub retire-requires : goal.retire-requires
-retire-requires g c = held-lent mended_view _ _ _ _ _ _ (λ contents. copied_image contents c.args.mending.now.image.now (copied_set c.args.mending.now.rebuild.head.now c.args.mending.now.rebuild.plan.now.recipes) c.args.mending.now.rebuild.head.now c.args.mending.now.rebuild.plan.now c.args.mending.now.rebuild.asks.now)
+retire-requires g c = held-lent mended_view _ _ _ _ _ _ (λ contents. copied_image contents c.args.mending.now.image.now (copied_set c.args.mending.now.rebuild.head.now (recipes_at c.args.mending.now.rebuild.plans.now 0)) c.args.mending.now.rebuild.head.now c.args.mending.now.rebuild.plans.now c.args.mending.now.rebuild.asks.now)
     c.in_ok-reader.ensures.given c.copy_beside-rebuilt.ensures.reads c.copy_beside-rebuilt.ensures.untold
 
 pub returns-clause-reads : goal.returns-clause-reads
 unfolding replied_image
-returns-clause-reads g c = reads_named mended_view _ _ _ (λ name contents. replied_image contents name (copied_set c.args.mending.now.rebuild.head.now c.args.mending.now.rebuild.plan.now.recipes) c.args.mending.now.rebuild.head.now c.args.mending.now.rebuild.plan.now c.args.mending.now.rebuild.asks.now) c.as_str.ensures.characters
-    (reads_held mended_view _ _ _ _ (live_reads c.args.mending.now.rebuild.head.now c.args.mending.now.rebuild.plan.now.recipes c.args.mending.now.rebuild.asks.now) (chars c.as_str.result.now) Live _
-    (λ contents. copied_image contents (chars c.as_str.result.now) (copied_set c.args.mending.now.rebuild.head.now c.args.mending.now.rebuild.plan.now.recipes) c.args.mending.now.rebuild.head.now c.args.mending.now.rebuild.plan.now c.args.mending.now.rebuild.asks.now)
+returns-clause-reads g c = reads_named mended_view _ _ _ (λ name contents. replied_image contents name (copied_set c.args.mending.now.rebuild.head.now (recipes_at c.args.mending.now.rebuild.plans.now 0)) c.args.mending.now.rebuild.head.now c.args.mending.now.rebuild.plans.now c.args.mending.now.rebuild.asks.now) c.as_str.ensures.characters
+    (reads_held mended_view _ _ _ _ (live_reads c.args.mending.now.rebuild.head.now (recipes_at c.args.mending.now.rebuild.plans.now) c.args.mending.now.rebuild.asks.now) (chars c.as_str.result.now) Live _
+    (λ contents. copied_image contents (chars c.as_str.result.now) (copied_set c.args.mending.now.rebuild.head.now (recipes_at c.args.mending.now.rebuild.plans.now 0)) c.args.mending.now.rebuild.head.now c.args.mending.now.rebuild.plans.now c.args.mending.now.rebuild.asks.now)
     c.in_ok-reader.ensures.given
-    (reads_named mended_view _ _ _ (λ name contents. copied_image contents name (copied_set c.args.mending.now.rebuild.head.now c.args.mending.now.rebuild.plan.now.recipes) c.args.mending.now.rebuild.head.now c.args.mending.now.rebuild.plan.now c.args.mending.now.rebuild.asks.now) (sym c.as_str.ensures.characters) c.copy_beside-rebuilt.ensures.reads)
+    (reads_named mended_view _ _ _ (λ name contents. copied_image contents name (copied_set c.args.mending.now.rebuild.head.now (recipes_at c.args.mending.now.rebuild.plans.now 0)) c.args.mending.now.rebuild.head.now c.args.mending.now.rebuild.plans.now c.args.mending.now.rebuild.asks.now) (sym c.as_str.ensures.characters) c.copy_beside-rebuilt.ensures.reads)
     c.retire.ensures.told)
 
 pub returns-clause-totals : goal.returns-clause-totals
 unfolding replied_image
-returns-clause-totals g c = grows_named _ _ _ _ (λ name contents. replied_image contents name (copied_set c.args.mending.now.rebuild.head.now c.args.mending.now.rebuild.plan.now.recipes) c.args.mending.now.rebuild.head.now c.args.mending.now.rebuild.plan.now c.args.mending.now.rebuild.asks.now) c.as_str.ensures.characters
-    (grows_held _ _ _ _ _ _ (chars c.as_str.result.now) Live _ _ _ (live_reads c.args.mending.now.rebuild.head.now c.args.mending.now.rebuild.plan.now.recipes c.args.mending.now.rebuild.asks.now) _
-    (λ contents. copied_image contents (chars c.as_str.result.now) (copied_set c.args.mending.now.rebuild.head.now c.args.mending.now.rebuild.plan.now.recipes) c.args.mending.now.rebuild.head.now c.args.mending.now.rebuild.plan.now c.args.mending.now.rebuild.asks.now)
+returns-clause-totals g c = grows_named _ _ _ _ (λ name contents. replied_image contents name (copied_set c.args.mending.now.rebuild.head.now (recipes_at c.args.mending.now.rebuild.plans.now 0)) c.args.mending.now.rebuild.head.now c.args.mending.now.rebuild.plans.now c.args.mending.now.rebuild.asks.now) c.as_str.ensures.characters
+    (grows_held _ _ _ _ _ _ (chars c.as_str.result.now) Live _ _ _ (live_reads c.args.mending.now.rebuild.head.now (recipes_at c.args.mending.now.rebuild.plans.now) c.args.mending.now.rebuild.asks.now) _
+    (λ contents. copied_image contents (chars c.as_str.result.now) (copied_set c.args.mending.now.rebuild.head.now (recipes_at c.args.mending.now.rebuild.plans.now 0)) c.args.mending.now.rebuild.head.now c.args.mending.now.rebuild.plans.now c.args.mending.now.rebuild.asks.now)
     c.in_ok-reader.ensures.given c.in_ok-reader.ensures.totals c.in_ok-reader.ensures.fresh.0 c.copy_beside-rebuilt.ensures.replied
-    (grows_named _ _ _ _ (λ name contents. copied_image contents name (copied_set c.args.mending.now.rebuild.head.now c.args.mending.now.rebuild.plan.now.recipes) c.args.mending.now.rebuild.head.now c.args.mending.now.rebuild.plan.now c.args.mending.now.rebuild.asks.now) (sym c.as_str.ensures.characters) c.copy_beside-rebuilt.ensures.totals)
+    (grows_named _ _ _ _ (λ name contents. copied_image contents name (copied_set c.args.mending.now.rebuild.head.now (recipes_at c.args.mending.now.rebuild.plans.now 0)) c.args.mending.now.rebuild.head.now c.args.mending.now.rebuild.plans.now c.args.mending.now.rebuild.asks.now) (sym c.as_str.ensures.characters) c.copy_beside-rebuilt.ensures.totals)
     c.retire.ensures.totals)

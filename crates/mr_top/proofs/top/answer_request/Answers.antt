@@ -3,6 +3,7 @@ use Rattle.std.proofs.Common.{◌+◌, Ok, subst, sym}
 use Rattle.mr_io.specs.Reading.{ReadsFront}
 use Rattle.mr_mend.specs.Scripts.{script_limit}
 use Rattle.mr_top.specs.CheckSteps.{check_answer}
+use Rattle.mr_top.specs.Convert.{convert_answer}
 use Rattle.mr_top.specs.EncodeSteps.{encode_answer}
 use Rattle.mr_top.specs.Make.{make_given}
 use Rattle.mr_top.specs.PlanSteps.{plan_answer}
@@ -33,6 +34,10 @@ returns-in-Encode-clause-follows g c = with-request _ _ _ _ _ _ _ _ c.in-Encode.
 pub returns-in-Rebuild-clause-follows : goal.returns-in-Rebuild-clause-follows
 returns-in-Rebuild-clause-follows g c = with-request _ _ _ _ _ _ _ _ c.in-Rebuild.is c.rebuild.ensures.follows
 
+pub returns-in-Convert-clause-follows : goal.returns-in-Convert-clause-follows
+returns-in-Convert-clause-follows g c = with-request _ _ _ _ _ _ _ _ c.in-Convert.is (with-files output_of _ _ _ _ _ _
+    (λ contents. convert_answer contents c.in-Convert.matrix c.in-Convert.image) c.convert.ensures.reads c.convert.ensures.totals)
+
 pub returns-in-Plan-clause-script_front : goal.returns-in-Plan-clause-script_front
 returns-in-Plan-clause-script_front g c = subst (λ s. ReadsFront (g.S.Source.left c.args.lent.now.script.now) (g.S.Source.left s) (script_limit + 1))
     (sym c.plan.ensures.kept) (front_none _ _)
@@ -47,3 +52,7 @@ returns-in-Make-clause-script_front g c = front_none _ _
 pub returns-in-Encode-clause-script_front : goal.returns-in-Encode-clause-script_front
 returns-in-Encode-clause-script_front g c = subst (λ s. ReadsFront (g.S.Source.left c.args.lent.now.script.now) (g.S.Source.left s) (script_limit + 1))
     (sym c.encode.ensures.kept) (front_none _ _)
+
+pub returns-in-Convert-clause-script_front : goal.returns-in-Convert-clause-script_front
+returns-in-Convert-clause-script_front g c = subst (λ s. ReadsFront (g.S.Source.left c.args.lent.now.script.now) (g.S.Source.left s) (script_limit + 1))
+    (sym c.convert.ensures.kept) (front_none _ _)

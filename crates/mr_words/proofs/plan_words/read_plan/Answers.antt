@@ -3,12 +3,12 @@ use Rattle.mr_words.specs.Plan.{plan_from, plan_syntax}
 use Rattle.mr_words.proofs.Steps.{asks_err, asks_ok}
 use Rattle.mr_words.proofs.plan_words.read_plan.Goals as goal
 
-pub returns-in_err-matches : goal.returns-in_err-matches
-returns-in_err-matches c = asks_err plan_syntax plan_from (map string_bytes c.args.words.now) c.in_err-matches.field-0.0 c.from_residual-in_err-matches.result
+pub returns-in_err-matches-clause-reads : goal.returns-in_err-matches-clause-reads
+returns-in_err-matches-clause-reads c = asks_err plan_syntax plan_from (map string_bytes c.args.words.now) c.in_err-matches.field-0.0 c.from_residual-in_err-matches.result
     (c.in_err-matches.ensures (codes "plan") plan_syntax (record { is = c.in_ok-command.ensures; fit = refl })) c.from_residual-in_err-matches.ensures.1
 
-pub returns : goal.returns
-returns c =
+pub returns-clause-reads : goal.returns-clause-reads
+returns-clause-reads c =
     let p = c.in_ok-matches.ensures (codes "plan") plan_syntax (record { is = c.in_ok-command.ensures; fit = refl }) in
     asks_ok plan_syntax plan_from (map string_bytes c.args.words.now) c.in_ok-matches.matches c.plan_values.result p
-    (rw (p.2.0 (codes "matrix") refl, p.2.0 (codes "lost") refl, p.2.0 (codes "workers") refl, p.2.0 (codes "budget") refl) refl) c.plan_values.ensures
+    (rw (p.2.0 (codes "matrix") refl, p.2.0 (codes "lost") refl, p.2.0 (codes "workers") refl, p.2.0 (codes "budget") refl) refl) c.plan_values.ensures.reads

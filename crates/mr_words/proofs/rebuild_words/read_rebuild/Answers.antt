@@ -3,12 +3,12 @@ use Rattle.mr_words.specs.Rebuild.{rebuild_from, rebuild_syntax}
 use Rattle.mr_words.proofs.Steps.{asks_err, asks_ok}
 use Rattle.mr_words.proofs.rebuild_words.read_rebuild.Goals as goal
 
-pub returns-in_err-matches : goal.returns-in_err-matches
-returns-in_err-matches c = asks_err rebuild_syntax rebuild_from (map string_bytes c.args.words.now) c.in_err-matches.field-0.0 c.from_residual-in_err-matches.result
+pub returns-in_err-matches-clause-reads : goal.returns-in_err-matches-clause-reads
+returns-in_err-matches-clause-reads c = asks_err rebuild_syntax rebuild_from (map string_bytes c.args.words.now) c.in_err-matches.field-0.0 c.from_residual-in_err-matches.result
     (c.in_err-matches.ensures (codes "rebuild") rebuild_syntax (record { is = c.in_ok-command.ensures; fit = refl })) c.from_residual-in_err-matches.ensures.1
 
-pub returns : goal.returns
-returns c =
+pub returns-clause-reads : goal.returns-clause-reads
+returns-clause-reads c =
     let p = c.in_ok-matches.ensures (codes "rebuild") rebuild_syntax (record { is = c.in_ok-command.ensures; fit = refl }) in
     asks_ok rebuild_syntax rebuild_from (map string_bytes c.args.words.now) c.in_ok-matches.matches c.rebuild_values.result p
     (rw (
@@ -18,4 +18,4 @@ returns c =
       p.2.0 (codes "workers") refl,
       p.2.0 (codes "budget") refl,
       p.2.0 (codes "plan") refl,
-    ) refl) c.rebuild_values.ensures
+    ) refl) c.rebuild_values.ensures.reads

@@ -1,0 +1,5 @@
+//! The tests, a file for each part.
+
+mod convert;
+mod devices;
+mod rebuild;
