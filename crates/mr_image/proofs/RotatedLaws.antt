@@ -98,3 +98,7 @@ module _ (l : Layout) (m : Code) (image : Image) (columns : ℕ → List (List �
 
 pub keeps-codewords : (l : Layout) → KeepsCodewords l
 keeps-codewords l = record { images = converted-code l }
+
+-- an image of version 1 has one rotation
+pub rotations-one : (l : Layout) → l.version ≡ 1 → rotations l ≡ 1
+rotations-one l version = ap (λ v. cond (v == 2) (max 1 (min l.devices l.stripes)) 1) version

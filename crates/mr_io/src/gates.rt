@@ -37,6 +37,18 @@ pub enum Point {
     Planned {
         stripe: u32,
     },
+    /// A job was taken from those that are left, the job of this number.
+    Job {
+        number: u32,
+    },
+    /// A stripe was taken under its lock.
+    Held {
+        stripe: u32,
+    },
+    /// A stripe was given back, and its lock with it.
+    Left {
+        stripe: u32,
+    },
 }
 
 /// Is told of each point that work passes. It returns, and tells nothing. Several threads may pass one gate.

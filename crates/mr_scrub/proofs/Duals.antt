@@ -12,7 +12,7 @@ use Rattle.mr_model.proofs.SetLaws.{has-true, has-false, bit_at_cases, bit_at_mi
 use Rattle.mr_model.proofs.SumLaws.{xor-same, pick}
 use Rattle.mr_model.proofs.Finding.{filter_members-in, filter_members-out, filter_members-within}
 use Rattle.mr_model.proofs.Kept.{row_sum-single, row_sum-same, kept-independent}
-use Rattle.mr_model.proofs.Apart.{pick-none, product, SumBelow, Parted, part, product-none}
+use Rattle.mr_model.proofs.Apart.{xor-digits, pick-none, product, SumBelow, Parted, part, product-none}
 
 -- ---- a bit of a sum is the sum of the bits
 
@@ -23,21 +23,12 @@ bit_at-pick d r i = go (d == 1)
     go true = refl
     go false = bit_at-zero i
 
-xor-bits : (d e : ℕ) → d < 2 → e < 2 → (d + e) % 2 ≡ bit_xor d e
-xor-bits zero zero h k = refl
-xor-bits zero (suc zero) h k = refl
-xor-bits (suc zero) zero h k = refl
-xor-bits (suc zero) (suc zero) h k = refl
-xor-bits zero (suc (suc e)) h k = absurd (omega arith)
-xor-bits (suc zero) (suc (suc e)) h k = absurd (omega arith)
-xor-bits (suc (suc d)) e h k = absurd (omega arith)
-
 pub bit_at-sum : (rs : List ℕ) (x i : ℕ) → bit_at (sum rs x) i ≡ sum (map (λ r. bit_at r i) rs) x
 unfolding sum
 bit_at-sum [] x i = bit_at-zero i
 bit_at-sum (r ∷ rs) x i =
     bit_at_xor (pick (x % 2) r) (sum rs (x / 2)) i
-    ∙ xor-bits (bit_at (pick (x % 2) r) i) (bit_at (sum rs (x / 2)) i) (bit_at-lt (pick (x % 2) r) i) (bit_at-lt (sum rs (x / 2)) i)
+    ∙ xor-digits (bit_at (pick (x % 2) r) i) (bit_at (sum rs (x / 2)) i) (bit_at-lt (pick (x % 2) r) i) (bit_at-lt (sum rs (x / 2)) i)
     ∙ ap₂ bit_xor (bit_at-pick (x % 2) r i) (bit_at-sum rs (x / 2) i)
 
 -- sums of nothing

@@ -16,7 +16,7 @@ use Rattle.mr_eq.specs.Problems.{IsLoss}
 use Rattle.mr_eq.proofs.Losses.{determined-from}
 use Rattle.mr_image.specs.Images.{Layout, IsLayout, Covers, stripe_symbols}
 use Rattle.mr_image.specs.Rotated.{FitsCode, codes_by, rotations}
-use Rattle.mr_image.proofs.RotatedLaws.{codes-first, rotations-few, rotations-some}
+use Rattle.mr_image.proofs.RotatedLaws.{codes-first, rotations-few, rotations-one, rotations-some}
 use Rattle.mr_mend.specs.Mending.{AreMendable, copied_set}
 use Rattle.mr_mend.specs.Rotations.{AreValidPlans}
 use Rattle.mr_mend.proofs.CopySets.{copied-survivors}
@@ -43,10 +43,6 @@ use Rattle.mr_top.proofs.CodewordsOwn.{Valid, chosen-valid}
 use Rattle.mr_top.proofs.ImageSteps.{IsMendedBy}
 use Rattle.mr_top.proofs.RebuildSteps.{covers, rows-are}
 use Rattle.mr_top.proofs.Wanting.{given-wanted, none-handed, plan-wanted, some-handed}
-
--- an image of version 1 has one rotation
-pub rotations-one : (l : Layout) → l.version ≡ 1 → rotations l ≡ 1
-rotations-one l version = ap (λ v. cond (v == 2) (max 1 (min l.devices l.stripes)) 1) version
 
 -- ---- the plans are valid
 
