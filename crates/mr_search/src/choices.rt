@@ -9,7 +9,7 @@ ghost use Rattle.mr_search.specs.Crew.{InCrew};
 ghost use Rattle.mr_search.specs.Work.{IsIdle};
 
 use crate::crew::{first_key, new_crew, take_layer};
-use crate::inputs::{Inputs, Task};
+use crate::inputs::{Inputs, Question, Task};
 use crate::layers::expand_layer;
 use crate::worker::Worker;
 use mr_bits::{Mask, NoMemory};
@@ -46,22 +46,26 @@ pub fn search<T: Threads + Sync, G: Gate + Sync>(
     ensures bounded { IsWorkBounded problem.now }
 {
     let _loss = problem.targets();
-    find(rt, alloc, problem, budget, workers, gate)
+    let question = Question {
+        alloc,
+        problem,
+        budget,
+    };
+    find(rt, gate, &question, workers)
 }
 
-/// The choice for a problem.
+/// The choice for the problem that is asked for.
 fn find<T: Threads + Sync, G: Gate + Sync>(
     rt: &T,
-    alloc: Global,
-    problem: &Problem,
-    budget: u32,
-    workers: u32,
     gate: &G,
+    question: &Question,
+    workers: u32,
 ) -> Result<Found, NoMemory>
     requires { (1 ≤ workers) × (workers ≤ 64) }
-    ensures { IfOk result (λ found. found ≡ found_of
-        (choice_of problem.now.code problem.now.avail problem.now.targets budget)) }
+    ensures { IfOk result (λ found. found ≡ found_of (choice_of question.now.problem.now.code
+        question.now.problem.now.avail question.now.problem.now.targets question.now.budget)) }
 {
+    let problem = question.problem;
     let _loss = problem.targets();
     if problem.levels() == 0 {
         return Ok(Found::Least {
@@ -69,14 +73,14 @@ fn find<T: Threads + Sync, G: Gate + Sync>(
             work: 0,
         });
     }
-    match Equations::of(alloc, problem, budget) {
+    match Equations::of(question.alloc, problem, question.budget) {
         Ok(equations) => {
             let inputs = Inputs {
-                alloc,
+                alloc: question.alloc,
                 problem,
                 equations: &equations,
             };
-            search_layers(rt, gate, &inputs, budget, workers)
+            search_layers(rt, gate, &inputs, question.budget, workers)
         }
         Err(NullsError::TooMany { .. }) => Ok(Found::Spent {
             set: problem.plain(),

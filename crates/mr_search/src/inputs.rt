@@ -3,6 +3,14 @@ use mr_eq::{Equations, Problem};
 use mr_front::Layer;
 use std::alloc::Global;
 
+/// What a search is asked: the problem, and the most work that it may take.
+#[derive(Drop)]
+pub(crate) struct Question<'a> {
+    pub alloc: Global,
+    pub problem: &'a Problem,
+    pub budget: u32,
+}
+
 /// What a search goes by: the problem, and its equations.
 #[derive(Drop)]
 pub(crate) struct Inputs<'a> {
