@@ -97,7 +97,7 @@ module _ (l : Layout) (recipes : List Recipe) where
 true_and_false : (b : Bool) → b ≡ true → b ≡ false → ⊥
 true_and_false b e f = cc
 
-stands-has_recipe : (recipes : List Recipe) (i k : ℕ) (d : Recipe) → k < length recipes → (get_or recipes k d).symbol ≡ i → has_recipe recipes i ≡ true
+pub stands-has_recipe : (recipes : List Recipe) (i k : ℕ) (d : Recipe) → k < length recipes → (get_or recipes k d).symbol ≡ i → has_recipe recipes i ≡ true
 unfolding equation_of
 stands-has_recipe [] i k d low e = absurd (omega arith)
 stands-has_recipe (r ∷ recipes) i zero d low e = (λ j. is_some (cond (eq-eqb r.symbol i e j) (Some r.equation) (equation_of recipes i)))

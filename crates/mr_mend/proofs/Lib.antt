@@ -20,3 +20,10 @@ pub mod ScriptTexts
 pub mod ScriptFaults
 pub mod Serves
 pub mod ReplyImages
+pub mod NextLines
+pub mod Levels
+pub mod Strides
+pub mod Drawing
+pub mod Answering
+pub mod SlotTurns
+pub mod DrawnTotals

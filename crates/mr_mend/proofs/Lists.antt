@@ -1,5 +1,5 @@
 -- Lists of recipes that stand upwards, and what is made of each item of a list.
-use Rattle.std.proofs.Common.{◌≡◌, ◌≤◌, ◌*◌, ◌+◌, ℕ, zero, suc, ◌<◌, ◌==◌, Bool, true, false, cond, List, [], ◌∷◌, ◌++◌, map, flat_map, length, get_or, All, Some, refl, ap, ap₂, ◌∙◌, arith, eqb-true, eq-eqb}
+use Rattle.std.proofs.Common.{◌≡◌, ◌≤◌, ◌*◌, ◌+◌, ℕ, zero, suc, ◌<◌, ◌==◌, Bool, true, false, cond, List, [], ◌∷◌, ◌++◌, flat_map, length, get_or, All, Some, refl, ap, ap₂, ◌∙◌, arith, eqb-true, eq-eqb}
 use Rattle.std.proofs.Math.ListN.{get_or-map}
 use Rattle.std.proofs.lemmas.List.{get_or_default, length-map}
 use Rattle.std.proofs.Math.Nat.{mul-le-mul}
@@ -8,6 +8,7 @@ use Rattle.mr_plan.specs.Plans.{AreUpward}
 use Rattle.mr_plan.specs.PlanLists.{symbols_of}
 use Rattle.mr_image.specs.Images.{Layout, stripe_symbols, equation_of}
 use Rattle.mr_image.specs.declared.limits.TheConstants.{SYMBOL_LIMIT}
+use Rattle.mr_board.proofs.Sizes.{few-recipes}
 use Rattle.mr_mend.specs.Mending.{IsUpwards}
 
 -- what is the same of each item is the same in all
@@ -47,13 +48,7 @@ symbol-in l recipes k r in_range low is = omega (arith, in_range k r low, ap (λ
 
 -- ---- how many recipes
 
-upward-few : (a : ℕ) (recipes : List Recipe) → AreUpward a recipes → a ≤ 128 → a + length recipes ≤ 128
-upward-few a [] up low = omega arith
-upward-few a (r ∷ recipes) up low =
-    let rest : r.symbol + 1 + length recipes ≤ 128 = upward-few (r.symbol + 1) recipes up.1 (omega (arith, up.0.symbol)) in
-    omega (arith, rest, up.0.later)
-
 -- the bytes of one symbol for each recipe of a plan
 pub recipes-fit : (recipes given : List Recipe) (bytes size : ℕ) → given ≡ recipes → AreUpward 0 recipes → size ≡ bytes → bytes ≤ SYMBOL_LIMIT → length given * size ≤ 128 * SYMBOL_LIMIT
 recipes-fit recipes given bytes size same up is few =
-    mul-le-mul {n₂ = 128} {m₂ = SYMBOL_LIMIT} (omega (arith, ap length same, upward-few 0 recipes up (omega arith))) (omega (arith, is, few))
+    mul-le-mul {n₂ = 128} {m₂ = SYMBOL_LIMIT} (few-recipes recipes given same up) (omega (arith, is, few))

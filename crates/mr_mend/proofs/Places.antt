@@ -1,5 +1,5 @@
 -- A symbol is put to its place in the bytes of a file: it stands there, and all others stay.
-use Rattle.std.proofs.Common.{◌≡◌, ℕ, ◌+◌, ◌*◌, ◌<◌, ◌≤◌, ◌⊎◌, List, take, drop, length, sym, subst, ◌∙◌, arith}
+use Rattle.std.proofs.Common.{◌≡◌, ℕ, ◌+◌, ◌<◌, ◌≤◌, ◌⊎◌, List, take, drop, length, sym, subst, ◌∙◌, arith}
 use Rattle.std.proofs.lemmas.Slice.{take-put_mid_below}
 use Rattle.mr_image.specs.Images.{Layout, stripe_symbols, image_of, place}
 use Rattle.mr_image.specs.Heads.{file_bytes}

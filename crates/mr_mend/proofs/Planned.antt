@@ -1,16 +1,15 @@
 -- The plans of all rotations: what they are for each stripe, and what they make of images that come from data.
-use Rattle.std.proofs.Common.{◌≡◌, ℕ, ◌+◌, ◌-◌, ◌*◌, ◌%◌, ◌^◌, ◌<◌, ◌≤◌, ◌==◌, ◌⊎◌, inl, inr, false, cond, max, min, List, [], ◌∷◌, length, get_or, refl, sym, ap, subst, ◌∙◌, ⊎_elim, arith}
-use Rattle.std.specs.Int.{bit_at}
+use Rattle.std.proofs.Common.{◌≡◌, ℕ, ◌-◌, ◌*◌, ◌%◌, ◌^◌, ◌<◌, ◌≤◌, ◌==◌, inl, inr, false, cond, max, min, List, [], ◌∷◌, length, get_or, sym, ap, subst, ◌∙◌, arith}
 use Rattle.std.proofs.lemmas.Nat.{mod_below}
 use Rattle.std.proofs.lemmas.Nat.Bits.{bit_at_ones}
 use Rattle.std.proofs.lemmas.List.{get_or_default}
 use Rattle.mr_model.specs.Members.{members}
 use Rattle.mr_model.specs.Code.{Code}
 use Rattle.mr_model.proofs.SetLaws.{bit_at_cases, bit_at_minus}
-use Rattle.mr_model.specs.Plans.{Recipe, IsValidPlan}
+use Rattle.mr_model.specs.Plans.{IsValidPlan}
 use Rattle.mr_model.specs.Rotations.{rotated}
 use Rattle.mr_bits.specs.Matrices.{IsMatrixCode}
-use Rattle.mr_image.specs.Images.{Layout, IsLayout, stripe_symbols, Image, every_stripe, Covers, AreValid, ComeFrom}
+use Rattle.mr_image.specs.Images.{Layout, IsLayout, stripe_symbols, every_stripe, Covers, AreValid}
 use Rattle.mr_image.specs.Rotated.{FitsCode, codes_by, rotations}
 use Rattle.mr_image.proofs.RotatedLaws.{codes-of, codes-at, rotations-some}
 use Rattle.mr_image.proofs.Codewords.{gives-codewords}
@@ -29,8 +28,8 @@ few_survivors l m lost is fits =
     let rows : length m.rows ≡ stripe_symbols l = is.count ∙ sym (λ j. fits.devices j * fits.symbols j) in
     subst (λ n. survivors m lost < 2 ^ n) rows (survivors-below m lost)
 
-covers : (l : Layout) (m : Code) (lost : ℕ) → IsMatrixCode m → FitsCode l m → Covers l (survivors m lost) lost
-covers l m lost is fits =
+pub survivors_cover : (l : Layout) (m : Code) (lost : ℕ) → IsMatrixCode m → FitsCode l m → Covers l (survivors m lost) lost
+survivors_cover l m lost is fits =
     let rows : length m.rows ≡ stripe_symbols l = is.count ∙ sym (λ j. fits.devices j * fits.symbols j) in
     record {
       few_survivors = few_survivors l m lost is fits;
@@ -85,7 +84,7 @@ module _ (l : Layout) (m : Code) (lost : ℕ) (plans : List PlanParts) (is : IsM
 
   -- in each stripe there is a valid plan
   pub planned-valid : AreValid l (codes_by l m) (every_stripe (survivors m lost)) (every_stripe lost) (λ s. (plan_at plans s).set) (recipes_at plans)
-  planned-valid = record { covered = λ s here. covers l m lost is fits; valid = valid-at }
+  planned-valid = record { covered = λ s here. survivors_cover l m lost is fits; valid = valid-at }
 
 -- in version 1 one valid plan of the code serves all stripes
 pub valid-one : (l : Layout) (m : Code) (lost : ℕ) (plan : PlanParts) → l.version ≡ 1 → IsValidPlan m (survivors m lost) lost plan.set plan.recipes → AreValidPlans l m lost (plan ∷ [])

@@ -1,5 +1,5 @@
 -- The line of a reply as it is built in a buffer, and the lines of replies that stand one after another.
-use Rattle.std.proofs.Common.{◌≡◌, ℕ, zero, suc, ◌+◌, ◌*◌, ◌<◌, ◌≤◌, List, [], ◌∷◌, ◌++◌, flat_map, take, drop, length, get_or, set, All, refl, sym, ap, ap₂, subst, ◌∙◌, arith, zero-mul, Ok, Err}
+use Rattle.std.proofs.Common.{◌≡◌, ℕ, zero, suc, ◌+◌, ◌*◌, ◌<◌, ◌≤◌, List, [], ◌∷◌, ◌++◌, flat_map, take, drop, length, get_or, set, All, refl, sym, ap, ap₂, ◌∙◌, arith, zero-mul, Ok, Err}
 use Rattle.std.specs.Prelude.{Result, IsOk, OnOk}
 use Rattle.std.proofs.Math.Nat.{suc-mul}
 use Rattle.std.proofs.Math.Seq.{take-append-add}

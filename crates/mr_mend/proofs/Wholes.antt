@@ -1,13 +1,10 @@
 -- The bytes of a file are its head and its symbols: a file with a head and the symbols of an image is the file of that image.
-use Rattle.std.proofs.Common.{◌≡◌, ℕ, zero, suc, ◌+◌, ◌*◌, ◌<◌, ◌≤◌, Bool, true, false, List, ◌++◌, take, drop, flat_map, length, Option, Some, None, refl, sym, ap, ap₂, subst, ◌∙◌, arith, zero-mul}
+use Rattle.std.proofs.Common.{◌≡◌, ℕ, ◌<◌, Bool, true, false, List, ◌++◌, take, drop, length, Option, Some, None, refl, sym, subst, ◌∙◌}
 use Rattle.std.specs.Prelude.{is_some, IfSome}
-use Rattle.std.specs.List.{range_with_len}
-use Rattle.std.proofs.Math.Nat.{suc-mul, add-mul, mul_assoc}
-use Rattle.std.proofs.Math.Seq.{take-add}
-use Rattle.std.proofs.lemmas.List.{drop-drop, take_all, take_at, length-drop, take-append-drop}
+use Rattle.std.proofs.lemmas.List.{take_at}
 use Rattle.mr_model.specs.Plans.{Recipe}
-use Rattle.mr_image.specs.Images.{Layout, Image, stripe_symbols, image_of, image_body, stripe_of, equation_of, rebuilt, mended, place}
-use Rattle.mr_image.specs.Heads.{head_bytes, image_bytes, file_bytes}
+use Rattle.mr_image.specs.Images.{Layout, Image, stripe_symbols, image_of, stripe_of, equation_of, rebuilt, mended}
+use Rattle.mr_image.specs.Heads.{head_bytes, file_bytes}
 use Rattle.mr_image.proofs.FileLaws.{file-is}
 use Rattle.mr_mend.specs.declared.asks.Ask.{Ask}
 use Rattle.mr_mend.specs.Mending.{has_recipe, HoldsMended, HoldsCopies, KeepsMended, mended_file}

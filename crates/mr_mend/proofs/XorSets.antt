@@ -1,5 +1,5 @@
 -- The XOR of the symbols of a set in a stripe, one symbol after the other.
-use Rattle.std.proofs.Common.{refl, ◌≡◌, ℕ, ◌+◌, ◌-◌, ◌*◌, ◌^◌, ◌<◌, true, List, [], take, drop, length, get_or, replicate, Option, Some, None, sym, ap, ap₂, subst, ◌∙◌, arith, zero-add, zero-mul}
+use Rattle.std.proofs.Common.{refl, ◌≡◌, ℕ, ◌+◌, ◌*◌, ◌^◌, ◌<◌, true, List, [], take, drop, length, get_or, replicate, Option, Some, None, sym, ap, ap₂, subst, ◌∙◌, arith, zero-add, zero-mul}
 use Rattle.std.specs.Prelude.{IfSome}
 use Rattle.std.proofs.Math.Nat.{add-mul}
 use Rattle.std.proofs.lemmas.Option.{IfSome_then}

@@ -1,5 +1,5 @@
 -- What plans must be to mend an image, and the bytes of the rebuilt symbols.
-use Rattle.std.specs.Prelude.{◌≡◌, ℕ, ◌+◌, ◌*◌, ◌^◌, ◌<◌, ◌≤◌, ◌≢◌, ◌⊎◌, Bool, true, false, not, List, map, flat_map, take, drop, length, slice_index, slice_index_or, All, is_some, if◌then◌else◌}
+use Rattle.std.specs.Prelude.{◌≡◌, ℕ, ◌*◌, ◌^◌, ◌<◌, ◌≤◌, ◌≢◌, ◌⊎◌, Bool, true, false, not, List, map, take, drop, length, slice_index, slice_index_or, All, is_some, if◌then◌else◌}
 use Rattle.std.specs.Int.{bit_at}
 use Rattle.mr_model.specs.Sets.{has, within, set_below}
 use Rattle.mr_model.specs.Members.{members}
@@ -34,10 +34,6 @@ pub record AreMendable (l : Layout) (plans : List PlanParts) : Type 0 where
   pub each : (s : ℕ) → IsMendable l (plan_at plans s)
 
 -- ---- what is made
-
--- the rebuilt symbols of stripe s, in the order of the recipes
-abbrev pub lost_bytes : Layout → (ℕ → List Recipe) → Image → ℕ → List ℕ
-lost_bytes l recipes image s = flat_map (λ r. mended l recipes image s r.symbol) (recipes s)
 
 -- the bytes of a slot after symbol i was XORed into it, if the recipe has that symbol
 abbrev pub with_symbol : ℕ → List ℕ → Recipe → List ℕ → List ℕ

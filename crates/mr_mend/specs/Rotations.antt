@@ -1,5 +1,5 @@
 -- The plans of all rotations in use, and what they make of images whose survivors come from data.
-use Rattle.std.specs.Prelude.{◌≡◌, ℕ, ◌^◌, ◌<◌, List, length}
+use Rattle.std.specs.Prelude.{◌≡◌, ℕ, ◌<◌, List, length}
 use Rattle.std.specs.Int.{bit_at}
 use Rattle.mr_model.specs.Code.{Code}
 use Rattle.mr_model.specs.Plans.{IsValidPlan}

@@ -30,7 +30,7 @@ const HEAD: usize = HEAD_BYTES as usize;
 /// The memory of a rebuild: the bytes of the whole file, of one symbol, of one symbol for each recipe, of one symbol for
 /// each read of a script, and of the lines of replies that are gathered.
 #[derive(Drop)]
-pub struct Room {
+pub struct RebuildRoom {
     image: Vec<u8>,
     buf: Vec<u8>,
     lost: Vec<u8>,
@@ -38,7 +38,7 @@ pub struct Room {
     line: Vec<u8>,
 }
 
-impl Model for Room {
+impl Model for RebuildRoom {
     ghost use Rattle.std.specs.Prelude.{length};
     ghost use Rattle.mr_mend.specs.Mending.{RoomSizes};
 
@@ -53,7 +53,7 @@ impl Model for Room {
     } };
 }
 
-impl Room {
+impl RebuildRoom {
     /// All memory that a rebuild with this head, these plans and these reads takes.
     ///
     /// It answers `NoMemory` also where the bytes of all replies are too many for a `usize`.
@@ -62,12 +62,12 @@ impl Room {
         head: &ImageHead,
         plans: &Plans,
         asks: &[Ask],
-    ) -> Result<Room, NoMemory>
+    ) -> Result<RebuildRoom, NoMemory>
         ensures { IfOk result (IsRoomFor head.now plans.now asks.now) }
     {
         let size = head.bytes() as usize;
         let reply_bytes = asks.len().checked_mul(size).ok_or(NoMemory)?;
-        Ok(Room {
+        Ok(RebuildRoom {
             image: vec![in alloc; 0; head.file_bytes() as usize]?,
             buf: vec![in alloc; 0; size]?,
             lost: vec![in alloc; 0; plans.at(0).recipes().len() * size]?,
@@ -99,7 +99,7 @@ pub fn rebuild<E: Eye>(
     live_eye: &mut E,
     copy_eye: &mut E,
     rebuild: &Rebuild,
-    room: Room,
+    room: RebuildRoom,
 ) -> Result<Rebuilt, Failed>
     requires mend_eye { HasImage rebuild.now.head.now (E.sight mend_eye.old) }
     requires live_eye { HasImage rebuild.now.head.now (E.sight live_eye.old) }
@@ -143,7 +143,7 @@ pub fn rebuild<E: Eye>(
         ⊎ (Rose (E.faults live_eye.old) (E.faults live_eye.new)
         ⊎ Rose (E.faults copy_eye.old) (E.faults copy_eye.new))) }
 {
-    let Room {
+    let RebuildRoom {
         mut image,
         mut buf,
         mut lost,

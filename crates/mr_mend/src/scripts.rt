@@ -1,9 +1,10 @@
 //! The reading of a script: one read on each line.
 
-ghost use Rattle.std.specs.Prelude.{◌≡◌, ℕ, ◌==◌, ◌+◌, ◌<◌, ◌≤◌, ◌⊎◌, Some, Ok, Err, length, All, IfOk, IfErr, IfSome, IsErrOf, MatchOption};
+ghost use Rattle.std.specs.Prelude.{◌≡◌, ◌≢◌, ℕ, ◌==◌, ◌+◌, ◌<◌, ◌≤◌, ◌⊎◌, List, ◌++◌, Some, Ok, Err, length, All, IfOk, IfErr, IfSome, IfNone, IsErrOf, MatchOption};
 ghost use Rattle.mr_text.specs.Lines.{pieces};
 ghost use Rattle.mr_bits.specs.declared.errors.Large.{Large};
-ghost use Rattle.mr_mend.specs.Scripts.{HasFirstBadLine, HasLargeReplies, IsInRange, ask_of, asks_from, asks_of, ask_before, script_limit, script_text};
+ghost use Rattle.mr_mend.specs.declared.asks.Ask.{Ask as AnAsk};
+ghost use Rattle.mr_mend.specs.Scripts.{HasFirstBadLine, HasLargeReplies, IsInRange, ask_line, ask_of, asks_from, asks_of, ask_before, script_limit, script_text};
 
 use crate::asks::{Ask, ScriptFault};
 use crate::limits::REPLY_LIMIT;
@@ -65,7 +66,8 @@ fn read_lines(alloc: Global, bytes: &[u8], head: &ImageHead) -> Result<Vec<Ask>,
 }
 
 /// The read of the line at the front, and what is left behind its line feed, or None where that line is none.
-fn next_ask<'a>(left: &'a [u8], head: &ImageHead) -> Option<(Ask, &'a [u8])>
+/// It takes no memory.
+pub fn next_ask<'a>(left: &'a [u8], head: &ImageHead) -> Option<(Ask, &'a [u8])>
     requires { 0 < length left.now }
     ensures value { (n : ℕ) → MatchOption result
         (asks_from head.now n (pieces 10 left.now) ≡ Err (ScriptFault.Line n))
@@ -73,7 +75,13 @@ fn next_ask<'a>(left: &'a [u8], head: &ImageHead) -> Option<(Ask, &'a [u8])>
         ≡ ask_before n (Some next.0) (asks_from head.now (n + 1) (pieces 10 next.1.now))) }
     ensures in_range { IfSome result (λ next. IsInRange head.now next.0) }
     ensures shorter { IfSome result (λ next. length next.1.now < length left.now) }
+
+    // What these say of the bytes: they begin with the line of that read, or with the line of none.
+    ensures text { IfSome result (λ next. left.now ≡ ask_line next.0 ++ next.1.now) }
+    ensures none { IfNone result ((ask : AnAsk) (more : List ℕ) → IsInRange head.now ask
+        → left.now ≢ ask_line ask ++ more) }
 {
+    let _within_the_limits = head.bytes();
     let (line, rest) = split_at_byte(left, b'\n')?;
     let ask = read_ask(line, head)?;
     Some((ask, rest))

@@ -5,7 +5,8 @@ ghost use Rattle.mr_io.specs.Counts.{HasCause};
 ghost use Rattle.mr_io.specs.Sights.{sight_with};
 ghost use Rattle.mr_image.specs.Images.{every_stripe, image_of};
 ghost use Rattle.mr_image.specs.Sights.{HasImage, IsSameFile};
-ghost use Rattle.mr_mend.specs.Mending.{IsMendable, lost_bytes, with_symbol};
+ghost use Rattle.mr_board.specs.Rights.{lost_bytes};
+ghost use Rattle.mr_mend.specs.Mending.{IsMendable, with_symbol};
 
 use mr_image::ImageHead;
 use mr_io::{Eye, Failed};

@@ -1,10 +1,10 @@
-use Rattle.std.proofs.Common.{◌+◌, ◌-◌, ◌*◌, ◌∙◌, List, ℕ, length, ap, refl, sym, subst, arith, drop, flat_map}
+use Rattle.std.proofs.Common.{◌+◌, ◌-◌, ◌*◌, List, ℕ, length, ap, refl, sym, subst, arith, drop, flat_map}
 use borrow.Rule.Slice.PartMut.{put_mid}
 use Rattle.mr_io.specs.Taking.{TakesPart, Puts}
 use Rattle.mr_io.proofs.Taking.{puts_err}
 use Rattle.mr_mend.specs.Replies.{replies_in}
 use Rattle.mr_mend.proofs.Gathering.{IsGathering, gathering-turn, gathering-cut, gathering-end}
-use Rattle.mr_mend.proofs.ReplyLines.{line_of, lines_before, lines-split, lines-more, lines-all, read_part}
+use Rattle.mr_mend.proofs.ReplyLines.{line_of, lines-split, lines-more, lines-all, read_part}
 use Rattle.mr_mend.proofs.replies.print_replies.Goals as goal
 
 pub returns-in_err-gathered-clause-puts : goal.returns-in_err-gathered-clause-puts

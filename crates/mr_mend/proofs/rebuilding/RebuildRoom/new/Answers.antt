@@ -3,7 +3,7 @@ use Rattle.mr_model.specs.Plans.{Recipe}
 use Rattle.mr_image.specs.declared.limits.TheConstants.{SYMBOL_LIMIT}
 use Rattle.mr_plan.proofs.PlanListLaws.{own_recipes}
 use Rattle.mr_mend.proofs.Lists.{recipes-fit}
-use Rattle.mr_mend.proofs.rebuilding.Room.new.Goals as goal
+use Rattle.mr_mend.proofs.rebuilding.RebuildRoom.new.Goals as goal
 
 pub overflow_mul-recipes : goal.overflow_mul-recipes
 overflow_mul-recipes c =
