@@ -20,9 +20,9 @@ use std::alloc::Global;
 /// the columns of row `i` of the matrix.
 ///
 /// The data file has no head, and for each stripe in turn a symbol for each column. The head is of the
-/// matrix's devices and symbols. All memory is taken first: room for the whole image file, for one stripe,
-/// and for the data of one stripe, where they do not stand first in it; so no more of the data file is
-/// held. Each stripe's data are read by one call.
+/// matrix's devices and symbols, and of version 1, in which the devices stay where they are. All memory is
+/// taken first: room for the whole image file, for one stripe, and for the data of one stripe, where they
+/// do not stand first in it; so no more of the data file is held. Each stripe's data are read by one call.
 ///
 /// It answers `Memory` for want of memory, and `Failed` where a read failed.
 pub fn encode<E: Eye>(
@@ -34,6 +34,7 @@ pub fn encode<E: Eye>(
 ) -> Result<Vec<u8>, FilesError>
     requires devices { head.now.devices ≡ matrix.now.devices }
     requires symbols { head.now.symbols_per_device ≡ matrix.now.symbols_per_device }
+    requires version { head.now.version ≡ 1 }
     requires eye { IfSome (E.sight eye.old).bytes (λ bytes.
         length bytes ≡ data_bytes head.now matrix.now) }
     ensures image { IfOk result (λ image. IfSome (E.sight eye.old).bytes (λ bytes.
