@@ -1,13 +1,12 @@
 -- The losses of the rotations, one after the other, and the first that is not determined.
-use Rattle.std.proofs.Common.{◌≡◌, ℕ, zero, suc, ◌+◌, ◌-◌, ◌^◌, ◌<◌, ◌≤◌, List, [], ◌∷◌, ◌++◌, map, length, bit_and, Option, Some, None, Result, Ok, Err, IfOk, IfErr, OnOk, refl, sym, ap, subst, ◌∙◌, ⊎_elim, arith, add-one, pow_pos}
-use Rattle.std.specs.List.{range_with_len}
-use Rattle.std.proofs.lemmas.Bool.{cases_lt, cases_eq}
+use Rattle.std.proofs.Common.{◌≡◌, ℕ, zero, suc, ◌+◌, ◌-◌, ◌^◌, ◌<◌, [], ◌∷◌, ◌++◌, length, Option, Some, None, Result, Ok, Err, refl, sym, ap, subst, ◌∙◌, ⊎_elim, arith, add-one}
+use Rattle.std.proofs.lemmas.Bool.{cases_eq}
 use Rattle.std.proofs.lemmas.List.FromFn.{map-range_with_len_more}
 use Rattle.mr_model.specs.Sets.{minus}
 use Rattle.mr_model.specs.Code.{Code, undetermined}
 use Rattle.mr_model.specs.Rotations.{rotated}
 use Rattle.mr_model.proofs.RotationLaws.{count-rotated}
-use Rattle.mr_eq.specs.Problems.{Loss, problem_of, unless_undetermined}
+use Rattle.mr_eq.specs.Problems.{Loss, unless_undetermined}
 use Rattle.mr_eq.specs.declared.problems.Undetermined.{Undetermined}
 use Rattle.mr_plan.specs.Plans.{survivors}
 use Rattle.mr_eq.proofs.SingleLaws.{survivors-below}

@@ -1,24 +1,21 @@
 -- The plans of all rotations, one after the other.
-use Rattle.std.proofs.Common.{◌≡◌, ℕ, zero, suc, ◌+◌, ◌-◌, ◌%◌, ◌^◌, ◌<◌, ◌≤◌, ◌==◌, Bool, true, false, cond, List, [], ◌∷◌, ◌++◌, map, length, get_or, max, min, refl, sym, ap, ap₂, subst, ◌∙◌, ⊎_elim, arith, mod-eq_of_lt}
-use Rattle.std.specs.List.{range_with_len}
+use Rattle.std.proofs.Common.{◌≡◌, ℕ, ◌+◌, ◌%◌, ◌<◌, ◌≤◌, ◌==◌, Bool, true, false, cond, List, [], ◌∷◌, ◌++◌, length, get_or, max, min, refl, sym, ap, ap₂, subst, ◌∙◌, ⊎_elim, arith, mod-eq_of_lt}
 use Rattle.std.proofs.Math.Nat.{le-mul_of_pos_right}
 use Rattle.std.proofs.lemmas.Bool.{cases_eq}
-use Rattle.std.proofs.lemmas.List.{get_or_default}
 use Rattle.std.proofs.lemmas.List.FromFn.{length-map-range_with_len, get_or-map-range_with_len, map-range_with_len_more}
 use Rattle.mr_model.specs.Code.{Code}
 use Rattle.mr_model.specs.Plans.{Recipe, IsValidPlan}
 use Rattle.mr_model.specs.Rotations.{rotated}
-use Rattle.mr_model.proofs.RotationLaws.{rotated-zero, count-rotated}
+use Rattle.mr_model.proofs.RotationLaws.{rotated-zero}
 use Rattle.mr_bits.specs.Matrices.{IsMatrixCode}
 use Rattle.mr_eq.specs.Problems.{Loss}
 use Rattle.mr_image.specs.Images.{Layout}
 use Rattle.mr_image.specs.Rotated.{FitsCode, codes_by, rotations}
 use Rattle.mr_image.proofs.RotatedLaws.{rotations-few}
 use Rattle.mr_plan.specs.Plans.{PlanParts, survivors}
-use Rattle.mr_plan.specs.PlanLists.{no_plan, plan_at, recipes_at, ArePlans}
+use Rattle.mr_plan.specs.PlanLists.{no_plan, plan_at, recipes_at}
 use Rattle.mr_plan.proofs.PlanListLaws.{plan_at-low}
 use Rattle.mr_mend.specs.Rotations.{AreValidPlans}
-use Rattle.mr_mend.proofs.Planned.{planned-symbols}
 use Rattle.mr_choices.specs.Rotations.{loss_at, losses_of}
 use Rattle.mr_steps.specs.Losses.{loss_of}
 use Rattle.mr_steps.specs.declared.choice_line.ChoiceLine.{ChoiceLine}

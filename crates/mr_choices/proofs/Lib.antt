@@ -1,3 +1,5 @@
 pub mod AtLaws
 pub mod PlanChoice
 pub mod ChosenLaws
+mod SinglesLaws
+pub mod Wanted

@@ -1,6 +1,7 @@
 -- The plans that the search chooses, with their lines.
 use Rattle.std.specs.Prelude.{List, map, ℕ}
 use Rattle.std.specs.List.{range_with_len}
+use Rattle.mr_eq.specs.Singles.{SinglesOf}
 use Rattle.mr_model.specs.Choice.{choice_of}
 use Rattle.mr_model.specs.Code.{Code, cost}
 use Rattle.mr_model.specs.Rotations.{rotated}
@@ -43,3 +44,8 @@ plans_chosen m lost budget n =
 abbrev pub lines_chosen : Code → ℕ → ℕ → ℕ → List ChoiceLine
 lines_chosen m lost budget n =
     map (λ r. (chosen_by (rotated m r) lost budget).line) (range_with_len 0 n)
+
+-- the single equations of the lost symbols in the first n rotations, each within the whole budget
+abbrev pub singles_chosen : Code → ℕ → ℕ → ℕ → List SinglesOf
+singles_chosen m lost budget n =
+    map (λ r. record { code = rotated m r; lost = lost; budget = budget }) (range_with_len 0 n)

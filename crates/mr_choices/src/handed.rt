@@ -5,7 +5,7 @@ ghost use Rattle.mr_model.specs.Plans.{IsValidPlan};
 ghost use Rattle.mr_plan.specs.Plans.{survivors};
 ghost use Rattle.mr_steps.specs.Losses.{loss_of};
 ghost use Rattle.mr_choices.specs.Handed.{handed_file, handed_given, plan_file, sound_given};
-ghost use Rattle.mr_steps.specs.Steps.{Gives, Grows, HasReadCause, IsPastWords, Reads};
+ghost use Rattle.mr_steps.specs.Steps.{Gives, Grows, HasReadCause, IsPastWords, IsUnread, Reads};
 
 use crate::chosen::ChosenPlan;
 use mr_bits::{Mask, Matrix, What};
@@ -28,6 +28,7 @@ pub fn handed_plan<F: Files>(
         (λ contents. handed_file contents plan.now matrix.now problem.now.targets) }
     ensures totals { Grows (F.told files.old) (F.totals files.old) (F.totals files.new) result
         (λ contents. handed_file contents plan.now matrix.now problem.now.targets) }
+    ensures unread { IsUnread (F.totals files.old) (F.totals files.new) }
     ensures valid { IfOk result
         (λ handed. IfSome handed
         (λ chosen. IsValidPlan matrix.now
@@ -55,6 +56,7 @@ fn plan_in_file<F: Files>(
         (λ contents. plan_file contents name.now matrix.now problem.now.targets) }
     ensures totals { Grows (F.told files.old) (F.totals files.old) (F.totals files.new) result
         (λ contents. plan_file contents name.now matrix.now problem.now.targets) }
+    ensures unread { IsUnread (F.totals files.old) (F.totals files.new) }
     ensures valid { IfOk result (λ handed. IfSome handed (λ chosen. IsValidPlan matrix.now
         (survivors matrix.now problem.now.targets) problem.now.targets
         chosen.plan.set chosen.plan.recipes)) }

@@ -12,7 +12,6 @@ use Rattle.mr_io.specs.declared.asked.Asked.{Asked}
 use Rattle.mr_steps.specs.Faults.{fault_status, IsFilesFault, IsWordsFault}
 use Rattle.mr_steps.specs.Requests.{or_usage}
 use Rattle.mr_words.specs.Reads.{Reads as ReadsWords}
-use Rattle.mr_steps.specs.declared.request.Request.{Request}
 use Rattle.mr_words.specs.declared.errors.WordsError.{WordsError}
 use Rattle.mr_words.specs.declared.errors.WordsError.TheVariants.{Usage as IsUsage, Memory as WantsMemory}
 use Rattle.mr_steps.specs.Readings.{Reading, given, file_taking, and_then, ◌>>=◌}
@@ -38,7 +37,7 @@ reads_memory view old definition = λ told there. record {
   whole = λ ok. absurd (false≢true ok);
 }
 
-err_same : {Y : Type 0} {a b : Fault} → ◌≡◌ {A = Result Y Fault} (Err a) (Err b) → a ≡ b
+pub err_same : {Y : Type 0} {a b : Fault} → ◌≡◌ {A = Result Y Fault} (Err a) (Err b) → a ≡ b
 err_same e = cc
 
 refused : {X Y Z W : Type 0} (view : X → Y) (view' : Z → W) (told : Told) (new : Option Told) (fault : Fault) (reading : Reading Y)
@@ -151,8 +150,8 @@ reads_held view old lent between new count name duty result next giving reads re
     }
 
 -- words that are not read end the chain
-pub refuses_words : (o : Option Request) (error : WordsError) (fault : Fault) → ReadsWords o (Err error) → IsWordsFault error fault
-    → Gives {X = Request} {Y = Request} (λ request. request) (Err fault) (or_usage o)
+pub refuses_words : {X : Type 0} (o : Option X) (error : WordsError) (fault : Fault) → ReadsWords {X = X} o (Err error) → IsWordsFault error fault
+    → Gives {X = X} {Y = X} (λ asked. asked) (Err fault) (or_usage o)
 refuses_words o IsUsage fault none is = λ _. ap or_usage none ∙ ap Err (sym is)
 refuses_words o WantsMemory fault none is = λ foreseen. absurd (foreseen.2 (ap fault_status is))
 

@@ -7,10 +7,11 @@ use Rattle.mr_io.specs.Sights.{Sight, fresh_sight, sight_with}
 use Rattle.mr_io.specs.Telling.{Told, told_giving}
 use Rattle.mr_io.specs.TotalsBy.{totals_with}
 use Rattle.mr_io.specs.declared.duty.Duty.{Duty}
+use Rattle.mr_io.specs.declared.duty.Duty.TheVariants.{Text, Head}
 use Rattle.mr_io.specs.declared.totals.Totals.{Totals}
 use Rattle.mr_io.proofs.Growth.{added-swap, grown-grown, grown-none, grown-retired}
 use Rattle.mr_steps.specs.Readings.{Reading, and_then, file_taking, given, ◌>>=◌}
-use Rattle.mr_steps.specs.Steps.{Grows, Reads}
+use Rattle.mr_steps.specs.Steps.{Grows, IsUnread, Reads}
 use Rattle.mr_steps.specs.declared.fault.Fault.{Fault}
 
 -- a step that reads nothing
@@ -73,3 +74,32 @@ grows_held old lent t0 t1 t2 t3 name duty bytes fresh sight count (Ok x) next gi
     back ∙ ap (λ s. totals_with t2 s.duty s.taken) (read ∙ ap (λ s. sight_with s count) is) ∙ grown-retired t2 duty count
     ∙ ap (λ t. grown t (bytes_of duty count)) between ∙ grown-grown t0 more (bytes_of duty count) ∙ ap (grown t0) (added-swap more (bytes_of duty count))
 grows_held old lent t0 t1 t2 t3 name duty bytes fresh sight count (Err fault) next giving same is read grows back = tt
+
+-- ---- what is left unread
+
+pub unread-same : (t0 t1 : Totals) → t1 ≡ t0 → IsUnread t0 t1
+unread-same t0 t1 e = subst (λ t. IsUnread t0 t) (sym e) (record { mend = refl; live = refl; copy = refl })
+
+pub unread-then : (t0 t1 t2 : Totals) → IsUnread t0 t1 → IsUnread t1 t2 → IsUnread t0 t2
+unread-then t0 t1 t2 first second = record {
+  mend = second.mend ∙ first.mend;
+  live = second.live ∙ first.live;
+  copy = second.copy ∙ first.copy;
+}
+
+-- an eye of a duty that counts for none of these was lent, and given back
+module _ (duty : Duty) (other : (t : Totals) (n : ℕ) → IsUnread t (totals_with t duty n)) where
+  unread-lent : (t0 t1 t2 : Totals) (bytes : Option (List ℕ)) (fresh : Sight) (own : Duty) (n : ℕ) → t1 ≡ t0 → fresh ≡ fresh_sight bytes duty
+      → own ≡ fresh.duty → t2 ≡ totals_with t1 own n → IsUnread t0 t2
+  unread-lent t0 t1 t2 bytes fresh own n same lent kept back =
+      unread-then t0 t1 t2 (unread-same t0 t1 same)
+      (subst (λ t. IsUnread t1 t) (sym (back ∙ ap (λ d. totals_with t1 d n) (kept ∙ ap (λ s. s.duty) lent))) (other t1 n))
+
+-- the eye of a text, and of a head
+pub unread-text : (t0 t1 t2 : Totals) (bytes : Option (List ℕ)) (fresh : Sight) (own : Duty) (n : ℕ) → t1 ≡ t0 → fresh ≡ fresh_sight bytes Text
+    → own ≡ fresh.duty → t2 ≡ totals_with t1 own n → IsUnread t0 t2
+unread-text = unread-lent Text (λ t n. record { mend = refl; live = refl; copy = refl })
+
+pub unread-head : (t0 t1 t2 : Totals) (bytes : Option (List ℕ)) (fresh : Sight) (own : Duty) (n : ℕ) → t1 ≡ t0 → fresh ≡ fresh_sight bytes Head
+    → own ≡ fresh.duty → t2 ≡ totals_with t1 own n → IsUnread t0 t2
+unread-head = unread-lent Head (λ t n. record { mend = refl; live = refl; copy = refl })

@@ -3,3 +3,7 @@ pub mod Growing
 pub mod LostSymbols
 pub mod Results
 pub mod Sinks
+pub mod Given
+pub mod LossCases
+pub mod LossRefused
+pub mod FaultCases

@@ -8,3 +8,5 @@ pub mod TextFiles
 pub mod Losses
 pub mod Lines
 pub mod Sinks
+pub mod Ran
+pub mod Undetermined

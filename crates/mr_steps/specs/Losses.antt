@@ -1,8 +1,8 @@
 -- The loss that a LOST word names.
-use Rattle.std.specs.Prelude.{Err, List, None, Ok, Option, Result, Some, encode_utf8_all, length, ℕ, ◌-◌, ◌/◌, ◌^◌}
+use Rattle.std.specs.Prelude.{Err, List, None, Ok, Option, Result, Some, encode_utf8_all, ℕ}
 use Rattle.mr_eq.specs.Problems.{Loss}
 use Rattle.mr_model.specs.Code.{Code, undetermined}
-use Rattle.mr_model.specs.Sets.{filter_members, has}
+pub use Rattle.mr_losses.specs.Losses.{symbols_of_devices}
 use Rattle.mr_plan.specs.Plans.{survivors}
 use Rattle.mr_words.specs.Lost.{devices_of, lost_numbers}
 use Rattle.mr_steps.specs.Refusals.{followed_by, ◌>>=◌}
@@ -18,11 +18,6 @@ or_no_device (Err number) = Err (NoDevice number)
 -- the devices of a LOST word, given by its characters, where there are so many devices
 unfoldable pub lost_given : ℕ → List ℕ → Result ℕ Fault
 lost_given count lost = or_no_device (devices_of count (lost_numbers (encode_utf8_all lost)))
-
--- the symbols of a set of devices
-unfoldable pub symbols_of_devices : Code → ℕ → ℕ
-symbols_of_devices m devices =
-    filter_members (2 ^ length m.rows - 1) (λ i. has devices (i / m.symbols_per_device))
 
 -- the loss of these symbols of a code: all others survive
 abbrev pub loss_of : Code → ℕ → Loss

@@ -1,24 +1,24 @@
 -- The requests that the words of the command line make.
 use Rattle.std.specs.List.{list_any}
-use Rattle.std.specs.Prelude.{Err, List, None, Ok, Option, Result, Some, [], bytes_eq, codes, drop, if◌then◌else◌, option_map, true, ℕ, ⊤, ◌==◌, ◌∷◌, ◌≡◌}
+use Rattle.std.specs.Prelude.{Bool, Err, List, None, Ok, Option, Result, Some, [], bytes_eq, codes, drop, if◌then◌else◌, option_map, true, ℕ, ⊤, ◌==◌, ◌∷◌, ◌≡◌}
 use Rattle.mr_words.specs.Check.{check_of}
-use Rattle.mr_words.specs.Convert.{convert_of}
 use Rattle.mr_words.specs.Encode.{encode_of}
+use Rattle.mr_words.specs.ImageWords.{image_words_of}
 use Rattle.mr_words.specs.Make.{make_of}
 use Rattle.mr_words.specs.Plan.{plan_of}
 use Rattle.mr_words.specs.Rebuild.{rebuild_of}
 use Rattle.mr_words.specs.Texts.{IsWorkers, primes_of}
 use Rattle.mr_words.specs.declared.check_words.CheckWords.{CheckWords}
 use Rattle.mr_words.specs.declared.code.Code.{Code}
-use Rattle.mr_words.specs.declared.convert_words.ConvertWords.{ConvertWords}
 use Rattle.mr_words.specs.declared.encode_words.EncodeWords.{EncodeWords}
+use Rattle.mr_words.specs.declared.image_words.ImageWords.{ImageWords}
 use Rattle.mr_words.specs.declared.make_words.MakeWords.{MakeWords}
 use Rattle.mr_words.specs.declared.plan_words.PlanWords.{PlanWords}
 use Rattle.mr_words.specs.declared.rebuild_words.RebuildWords.{RebuildWords}
 use Rattle.mr_steps.specs.declared.fault.Fault.{Fault}
 use Rattle.mr_steps.specs.declared.fault.Fault.TheVariants.{Usage}
 use Rattle.mr_steps.specs.declared.request.Request.{Request}
-use Rattle.mr_steps.specs.declared.request.Request.TheVariants.{Check, Convert, Encode, Make, Plan, Rebuild}
+use Rattle.mr_steps.specs.declared.request.Request.TheVariants.{Check, Convert, Encode, Make, Plan, Rebuild, Scrub}
 
 -- the request that the words of each command make
 abbrev pub plan_request : PlanWords → Request
@@ -35,10 +35,13 @@ encode_request words = Encode words.matrix words.payload words.stripes words.byt
 
 abbrev pub rebuild_request : RebuildWords → Request
 rebuild_request words =
-    Rebuild words.matrix words.image words.lost words.workers words.budget words.plan
+    Rebuild words.matrix words.image words.lost words.workers words.budget words.plan words.live
 
-abbrev pub convert_request : ConvertWords → Request
+abbrev pub convert_request : ImageWords → Request
 convert_request words = Convert words.matrix words.image
+
+abbrev pub scrub_request : ImageWords → Request
+scrub_request words = Scrub words.matrix words.image
 
 -- the request of words, of which the first is the command and is not looked at
 abbrev pub plan_request_of : List (List ℕ) → Option Request
@@ -57,7 +60,10 @@ abbrev pub rebuild_request_of : List (List ℕ) → Option Request
 rebuild_request_of words = option_map rebuild_request (rebuild_of (drop 1 words))
 
 abbrev pub convert_request_of : List (List ℕ) → Option Request
-convert_request_of words = option_map convert_request (convert_of (drop 1 words))
+convert_request_of words = option_map convert_request (image_words_of (drop 1 words))
+
+abbrev pub scrub_request_of : List (List ℕ) → Option Request
+scrub_request_of words = option_map scrub_request (image_words_of (drop 1 words))
 
 abbrev pub command_request : List ℕ → List (List ℕ) → Option Request
 command_request command words =
@@ -67,6 +73,7 @@ command_request command words =
     else if bytes_eq command (codes "encode") then encode_request_of words
     else if bytes_eq command (codes "rebuild") then rebuild_request_of words
     else if bytes_eq command (codes "convert") then convert_request_of words
+    else if bytes_eq command (codes "scrub") then scrub_request_of words
     else None
 
 -- the request of the words after the program's name, if they are in the grammar
@@ -85,21 +92,24 @@ IsRequest (Plan matrix lost workers budget) = IsWorkers workers
 IsRequest (Check matrix lost plan) = ⊤
 IsRequest (Make code p) = IsMade code p
 IsRequest (Encode matrix payload stripes bytes) = ⊤
-IsRequest (Rebuild matrix image lost workers budget plan) = IsWorkers workers
+IsRequest (Rebuild matrix image lost workers budget plan live) = IsWorkers workers
 IsRequest (Convert matrix image) = ⊤
+IsRequest (Scrub matrix image) = ⊤
 
 -- the words of a rebuild
-abbrev pub rebuild_words : List ℕ → List ℕ → List ℕ → ℕ → ℕ → Option (List ℕ) → RebuildWords
-rebuild_words matrix image lost workers budget plan = record {
+abbrev pub rebuild_words : List ℕ → List ℕ → List ℕ → ℕ → ℕ → Option (List ℕ) → Bool
+    → RebuildWords
+rebuild_words matrix image lost workers budget plan live = record {
   matrix = matrix;
   image = image;
   lost = lost;
   workers = workers;
   budget = budget;
   plan = plan;
+  live = live;
 }
 
--- the request, or the refusal of the words
-abbrev pub or_usage : Option Request → Result Request Fault
-or_usage (Some request) = Ok request
+-- what the words ask, or the refusal of the words
+abbrev pub or_usage : {X : Type 0} → Option X → Result X Fault
+or_usage (Some asked) = Ok asked
 or_usage None = Err Usage

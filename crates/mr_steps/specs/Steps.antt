@@ -42,6 +42,12 @@ abbrev pub Grows : {X Y : Type 0} → Option Told → Totals → Totals → Resu
 Grows told old new result definition =
     OnOk result (ForSome told (λ t. new ≡ grown old (definition t.contents).taken))
 
+-- No byte behind the head of an image was read: to mend it, for replies or to be copied.
+pub record IsUnread (old new : Totals) : Type 0 where
+  pub mend : new.mend ≡ old.mend
+  pub live : new.live ≡ old.live
+  pub copy : new.copy ≡ old.copy
+
 -- A failed read made the count of the files rise, which never falls and which an answer leaves as
 -- it was, and this step writes nothing.
 pub record HasReadCause {X : Type 0} (before now : ℕ) (result : Result X Fault) : Type 0 where

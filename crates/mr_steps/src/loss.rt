@@ -1,13 +1,14 @@
 //! The loss that a LOST word names: the symbols of the lost devices, to be read from the others.
 
 ghost use Rattle.std.specs.Prelude.{◌≡◌, ◌≤◌, ◌^◌, ◌<◌, length, IfOk};
-ghost use Rattle.mr_steps.specs.Losses.{determined_given, loss_of, lost_given, symbols_of_devices, targets_given};
+ghost use Rattle.mr_steps.specs.Losses.{determined_given, loss_of, lost_given, targets_given};
 ghost use Rattle.mr_steps.specs.Steps.{Gives, HasReadCause, IsPastWords};
 
 use crate::fault::Fault;
 use mr_bits::{Mask, Matrix};
 use mr_eq::Problem;
 use mr_io::Text;
+use mr_losses::symbols_of;
 
 /// The problem of reading the symbols of the lost devices from the others. `NoDevice` names the
 /// first number that is no device of the matrix, and `Undetermined` the least symbol that the
@@ -36,19 +37,6 @@ fn lost_devices(lost: &Text, devices: u32) -> Result<Mask, Fault>
         Ok(set) => Ok(set),
         Err(device) => Err(Fault::NoDevice { device }),
     }
-}
-
-/// The symbols of a set of devices.
-fn symbols_of(matrix: &Matrix, devices: Mask) -> Mask
-    ensures { result ≡ symbols_of_devices matrix.now devices }
-{
-    let mut symbols = Mask::EMPTY;
-    for symbol in matrix.all().symbols() {
-        if devices.contains(matrix.device_of(symbol) as u8) {
-            symbols = symbols.with(symbol);
-        }
-    }
-    symbols
 }
 
 /// The problem of reading the lost symbols from the others, where these determine them.

@@ -1,7 +1,7 @@
 //! What the words of the command line ask for.
 
 use mr_io::Text;
-use mr_words::{CheckWords, Code, ConvertWords, EncodeWords, MakeWords, PlanWords, RebuildWords};
+use mr_words::{CheckWords, Code, EncodeWords, MakeWords, PlanWords, RebuildWords};
 
 /// What the words of the command line ask for.
 #[derive(Debug, Drop)]
@@ -34,7 +34,8 @@ pub enum Request {
         bytes: u32,
     },
     /// An image file with the symbols of the lost devices rebuilt, for a matrix file: by this many
-    /// workers, and within this budget or by the plan of a plan file.
+    /// workers, and within this budget or by the plan of a plan file; the reads are served while it
+    /// is mended, or after that.
     Rebuild {
         matrix: Text,
         image: Text,
@@ -42,9 +43,15 @@ pub enum Request {
         workers: u32,
         budget: u32,
         plan: Option<Text>,
+        live: bool,
     },
     /// The image of version 2 that is made of an image file, for a matrix file.
     Convert {
+        matrix: Text,
+        image: Text,
+    },
+    /// The stripes of an image file that are no codewords, for a matrix file.
+    Scrub {
         matrix: Text,
         image: Text,
     },
@@ -125,20 +132,7 @@ impl From<RebuildWords> for Request {
             workers: words.workers,
             budget: words.budget,
             plan: words.plan,
-        }
-    }
-}
-
-impl From<ConvertWords> for Request {
-    ghost use Rattle.std.specs.Prelude.{◌≡◌};
-    ghost use Rattle.mr_steps.specs.Requests.{convert_request};
-
-    ghost from_gives = { λ words request. request ≡ convert_request words };
-
-    fn from(words: ConvertWords) -> Request {
-        Request::Convert {
-            matrix: words.matrix,
-            image: words.image,
+            live: words.live,
         }
     }
 }

@@ -7,7 +7,7 @@ ghost use Rattle.mr_form.specs.MatrixText.{matrix_of};
 ghost use Rattle.mr_io.specs.Sights.{Sight, sight_with};
 ghost use Rattle.mr_steps.specs.TextFiles.{matrix_file, text_file};
 ghost use Rattle.mr_steps.specs.Texts.{or_matrix_fault, text_limit, within_limit};
-ghost use Rattle.mr_steps.specs.Steps.{Gives, Grows, HasReadCause, IsPastWords, Reads};
+ghost use Rattle.mr_steps.specs.Steps.{Gives, Grows, HasReadCause, IsPastWords, IsUnread, Reads};
 
 use crate::fault::Fault;
 use mr_bits::{Matrix, What};
@@ -29,6 +29,7 @@ pub fn file_text<F: Files>(
         (λ contents. text_file contents name.now what) }
     ensures totals { Grows (F.told files.old) (F.totals files.old) (F.totals files.new) result
         (λ contents. text_file contents name.now what) }
+    ensures unread { IsUnread (F.totals files.old) (F.totals files.new) }
     ensures short { IfOk result (λ bytes. length bytes.items ≤ text_limit) }
     ensures cause { HasReadCause (F.faults files.old) (F.faults files.new) result }
     ensures past_words { IsPastWords result }
@@ -46,6 +47,7 @@ fn all_bytes<E: Eye>(alloc: Global, eye: &mut E, what: What) -> Result<Vec<u8>, 
     ensures short { IfOk result (λ bytes. length bytes.items ≤ text_limit) }
     ensures taken { OnOk result (ForSome (E.sight eye.old).bytes
         (λ bytes. E.sight eye.new ≡ sight_with (E.sight eye.old) (length bytes))) }
+    ensures duty { (E.sight eye.new).duty ≡ (E.sight eye.old).duty }
     ensures cause { HasReadCause (E.faults eye.old) (E.faults eye.new) result }
     ensures past_words { IsPastWords result }
 {
@@ -67,6 +69,7 @@ pub fn matrix_text<F: Files>(alloc: Global, files: &mut F, name: &Text) -> Resul
         (λ contents. matrix_file contents name.now) }
     ensures totals { Grows (F.told files.old) (F.totals files.old) (F.totals files.new) result
         (λ contents. matrix_file contents name.now) }
+    ensures unread { IsUnread (F.totals files.old) (F.totals files.new) }
     ensures code { IfOk result IsMatrixCode }
     ensures cause { HasReadCause (F.faults files.old) (F.faults files.new) result }
     ensures past_words { IsPastWords result }

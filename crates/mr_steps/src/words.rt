@@ -2,11 +2,12 @@
 
 ghost use Rattle.std.specs.Prelude.{◌≡◌, map, string_bytes, IfOk};
 ghost use Rattle.mr_words.specs.Reads.{Reads};
-ghost use Rattle.mr_steps.specs.Requests.{IsRequest, check_request_of, command_request, convert_request_of, encode_request_of, make_request_of, plan_request_of, rebuild_request_of, request_of};
+ghost use Rattle.mr_steps.specs.Requests.{IsRequest, check_request_of, command_request, convert_request_of, encode_request_of, make_request_of, plan_request_of, rebuild_request_of, request_of, scrub_request_of};
 
 use crate::request::Request;
 use mr_words::{
-    WordsError, read_check, read_convert, read_encode, read_make, read_plan, read_rebuild,
+    ImageWords, WordsError, read_check, read_encode, read_image_words, read_make, read_plan,
+    read_rebuild,
 };
 use std::alloc::Global;
 
@@ -35,6 +36,7 @@ fn read_command(alloc: Global, command: &str, words: &[String]) -> Result<Reques
         "encode" => read_encode_request(alloc, words),
         "rebuild" => read_rebuild_request(alloc, words),
         "convert" => read_convert_request(alloc, words),
+        "scrub" => read_scrub_request(alloc, words),
         _ => Err(WordsError::Usage),
     }
 }
@@ -93,8 +95,18 @@ fn read_convert_request(alloc: Global, words: &[String]) -> Result<Request, Word
     ensures reads { Reads (convert_request_of (map string_bytes words.now)) result }
     ensures makes { IfOk result IsRequest }
 {
-    match read_convert(alloc, words) {
-        Ok(words) => Ok(Request::from(words)),
+    match read_image_words(alloc, "convert", words) {
+        Ok(ImageWords { matrix, image }) => Ok(Request::Convert { matrix, image }),
+        Err(error) => Err(error),
+    }
+}
+
+fn read_scrub_request(alloc: Global, words: &[String]) -> Result<Request, WordsError>
+    ensures reads { Reads (scrub_request_of (map string_bytes words.now)) result }
+    ensures makes { IfOk result IsRequest }
+{
+    match read_image_words(alloc, "scrub", words) {
+        Ok(ImageWords { matrix, image }) => Ok(Request::Scrub { matrix, image }),
         Err(error) => Err(error),
     }
 }

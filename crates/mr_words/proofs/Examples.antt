@@ -1,5 +1,5 @@
 -- Words, and what they ask.
-use Rattle.std.proofs.Common.{◌≡◌, ℕ, List, [], ◌∷◌, Option, Some, None, codes, refl}
+use Rattle.std.proofs.Common.{◌≡◌, ℕ, Bool, true, false, List, [], ◌∷◌, Option, Some, None, codes, refl}
 use Rattle.std.specs.Str.{chars}
 use Rattle.mr_text.specs.Numbers.{is_number, number_of}
 use Rattle.mr_words.specs.Encode.{encode_of}
@@ -105,18 +105,18 @@ unfolding read_from number_of is_number chars
 bytes_ten_digits = refl
 
 -- an image to be rebuilt, by a plan that is found, and by a given one, whose name may be `-` but not empty
-abbrev rebuild_row : Option (List ℕ) → Option RebuildWords
-rebuild_row plan = Some (record { matrix = codes "r3"; image = codes "im"; lost = codes "0"; workers = 4; budget = 4194304; plan = plan })
+abbrev rebuild_row : Option (List ℕ) → Bool → Option RebuildWords
+rebuild_row plan live = Some (record { matrix = codes "r3"; image = codes "im"; lost = codes "0"; workers = 4; budget = 4194304; plan = plan; live = live })
 
-no_plan : rebuild_of (codes "r3" ∷ codes "im" ∷ codes "0" ∷ []) ≡ rebuild_row None
+no_plan : rebuild_of (codes "r3" ∷ codes "im" ∷ codes "0" ∷ []) ≡ rebuild_row None false
 unfolding read_from is_lost_word number_of is_number chars
 no_plan = refl
 
-plan_between : rebuild_of (codes "r3" ∷ codes "--plan=p=1" ∷ codes "im" ∷ codes "0" ∷ []) ≡ rebuild_row (Some (codes "p=1"))
+plan_between : rebuild_of (codes "r3" ∷ codes "--plan=p=1" ∷ codes "im" ∷ codes "0" ∷ []) ≡ rebuild_row (Some (codes "p=1")) false
 unfolding read_from is_lost_word number_of is_number chars
 plan_between = refl
 
-plan_dash : rebuild_of (codes "r3" ∷ codes "im" ∷ codes "0" ∷ codes "--plan" ∷ codes "-" ∷ []) ≡ rebuild_row (Some (codes "-"))
+plan_dash : rebuild_of (codes "r3" ∷ codes "im" ∷ codes "0" ∷ codes "--plan" ∷ codes "-" ∷ []) ≡ rebuild_row (Some (codes "-")) false
 unfolding read_from is_lost_word number_of is_number chars
 plan_dash = refl
 
@@ -124,6 +124,14 @@ plan_empty : rebuild_of (codes "r3" ∷ codes "im" ∷ codes "0" ∷ codes "--pl
 unfolding read_from is_lost_word number_of is_number chars
 plan_empty = refl
 
-live : rebuild_of (codes "r3" ∷ codes "im" ∷ codes "0" ∷ codes "--live" ∷ []) ≡ None
+live : rebuild_of (codes "r3" ∷ codes "--live" ∷ codes "im" ∷ codes "0" ∷ []) ≡ rebuild_row None true
 unfolding read_from is_lost_word number_of is_number chars
 live = refl
+
+live_twice : rebuild_of (codes "r3" ∷ codes "im" ∷ codes "--live" ∷ codes "0" ∷ codes "--live" ∷ []) ≡ None
+unfolding read_from is_lost_word number_of is_number chars
+live_twice = refl
+
+live_value : rebuild_of (codes "r3" ∷ codes "im" ∷ codes "0" ∷ codes "--live=true" ∷ []) ≡ None
+unfolding read_from is_lost_word number_of is_number chars
+live_value = refl

@@ -8,4 +8,4 @@ pub mod Reads
 pub mod Texts
 pub mod Encode
 pub mod Rebuild
-pub mod Convert
+pub mod ImageWords

@@ -1,6 +1,7 @@
--- `rebuild MATRIX IMAGE LOST [--workers W] [--budget C] [--plan FILE]`
+-- `rebuild MATRIX IMAGE LOST [--workers W] [--budget C] [--plan FILE] [--live]`
 use Rattle.std.specs.Prelude.{List, [], ◌∷◌, Option, Some, codes}
 use Rattle.mr_words.specs.Grammar.{Syntax, Text, ◌>>=◌, given_of, text_in}
+use Rattle.mr_words.specs.Reads.{is_set}
 use Rattle.mr_words.specs.Texts.{budget_of, file_of, file_or_none, lost_of, workers_of}
 use Rattle.mr_words.specs.declared.rebuild_words.RebuildWords.{RebuildWords}
 
@@ -8,7 +9,7 @@ abbrev pub rebuild_syntax : Syntax
 rebuild_syntax = record {
   places = codes "matrix" ∷ codes "image" ∷ codes "lost" ∷ [];
   valued = codes "workers" ∷ codes "budget" ∷ codes "plan" ∷ [];
-  flags = [];
+  flags = codes "live" ∷ [];
 }
 
 -- what the texts of the names mean
@@ -27,6 +28,7 @@ rebuild_from text = do
     workers = workers;
     budget = budget;
     plan = plan;
+    live = is_set (text (codes "live"));
   })
 
 -- what the words after `rebuild` ask

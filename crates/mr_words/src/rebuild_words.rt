@@ -1,4 +1,4 @@
-//! The words of `rebuild MATRIX IMAGE LOST [--workers W] [--budget C] [--plan FILE]`.
+//! The words of `rebuild MATRIX IMAGE LOST [--workers W] [--budget C] [--plan FILE] [--live]`.
 
 ghost use Rattle.std.specs.Prelude.{◌≡◌, IfOk, codes, drop, map, string_bytes};
 ghost use Rattle.clap.specs.Words.{app_of, first_value, found_of};
@@ -9,7 +9,7 @@ ghost use Rattle.mr_words.specs.Texts.{IsWorkers};
 
 use crate::command::{command_for, parse};
 use crate::errors::WordsError;
-use crate::values::{budget, file, lost, optional_file, workers};
+use crate::values::{budget, file, is_set, lost, optional_file, workers};
 use clap::{ArgMatches, Command};
 use mr_io::Text;
 use std::alloc::{AllocError, Global};
@@ -29,6 +29,8 @@ pub struct RebuildWords {
     pub budget: u32,
     /// The name of the plan file, where one is given.
     pub plan: Option<Text>,
+    /// Whether the reads are served while the image is mended.
+    pub live: bool,
 }
 
 /// Reads the words of `rebuild`, of which the first is `rebuild` itself and is not looked at.
@@ -51,6 +53,7 @@ fn rebuild_values(alloc: Global, matches: &ArgMatches) -> Result<RebuildWords, W
     let workers = workers(matches)?;
     let budget = budget(matches)?;
     let plan = optional_file(alloc, matches, "plan")?;
+    let live = is_set(matches, "live");
     Ok(RebuildWords {
         matrix,
         image,
@@ -58,6 +61,7 @@ fn rebuild_values(alloc: Global, matches: &ArgMatches) -> Result<RebuildWords, W
         workers,
         budget,
         plan,
+        live,
     })
 }
 
@@ -66,5 +70,5 @@ fn rebuild_command<'a>(alloc: Global) -> Result<Command<'a>, AllocError>
 {
     let places = ["matrix", "image", "lost"];
     let valued = ["workers", "budget", "plan"];
-    command_for(alloc, "rebuild", &places, &valued, &[])
+    command_for(alloc, "rebuild", &places, &valued, &["live"])
 }

@@ -1,14 +1,11 @@
-use Rattle.std.proofs.Common.{◌≡◌, ◌+◌, ◌<◌, ◌≤◌, List, [], ◌∷◌, ◌++◌, length, ap, sym, subst, ◌∙◌, arith}
-use Rattle.mr_model.specs.Code.{Code}
-use Rattle.mr_model.specs.Plans.{IsValidPlan}
-use Rattle.mr_eq.specs.Problems.{Loss}
+use Rattle.std.proofs.Common.{◌+◌, List, [], ◌∷◌, ◌++◌, ap, sym, subst, ◌∙◌, arith}
 use Rattle.mr_image.specs.Rotated.{rotations}
-use Rattle.mr_plan.specs.Plans.{PlanParts, survivors}
+use Rattle.mr_plan.specs.Plans.{PlanParts}
 use Rattle.mr_mend.specs.Rotations.{AreValidPlans}
 use Rattle.mr_mend.proofs.Planned.{planned-symbols}
 use Rattle.mr_steps.specs.declared.choice_line.ChoiceLine.{ChoiceLine}
-use Rattle.mr_choices.specs.Chosen.{chosen_by, lines_chosen, plans_chosen}
-use Rattle.mr_choices.proofs.ChosenLaws.{ChosenBelow, chosen-start, chosen-turn, chosen-valid, problem-at, own-problem, own-chosen, own-valid, rotation-low, devices-few, all-rotations}
+use Rattle.mr_choices.specs.Chosen.{lines_chosen, plans_chosen}
+use Rattle.mr_choices.proofs.ChosenLaws.{ChosenBelow, chosen-turn, chosen-valid, problem-at, own-problem, own-chosen, own-valid, rotation-low, devices-few, all-rotations}
 use Rattle.mr_choices.proofs.choosing.plans_of.Goals as goal
 
 pub rotated-rotated-requires : goal.rotated-rotated-requires

@@ -5,7 +5,7 @@ use Rattle.mr_steps.specs.TextFiles.{text_file}
 use Rattle.mr_steps.specs.Texts.{within_limit}
 use Rattle.mr_steps.specs.Readings.{given}
 use Rattle.mr_steps.proofs.Chains.{reads_file, reads_named, reads_no_eye}
-use Rattle.mr_steps.proofs.Growing.{grows_file, grows_named}
+use Rattle.mr_steps.proofs.Growing.{grows_file, grows_named, unread-same, unread-text}
 use Rattle.mr_steps.proofs.text.file_text.Goals as goal
 
 pub returns-in_err-eye-clause-reads : goal.returns-in_err-eye-clause-reads
@@ -27,3 +27,9 @@ unfolding text_file
 returns-clause-totals g c = grows_named _ _ _ _ (λ name contents. text_file contents name c.args.what) c.as_str.ensures.characters
     (grows_file _ _ _ _ (chars c.as_str.result.now) Text _ _ _ (within_limit c.args.what) length
     c.in_ok-eye.ensures.totals c.in_ok-eye.ensures.fresh.0 c.all_bytes-bytes.ensures.taken c.retire.ensures.totals)
+
+pub returns-in_err-eye-clause-unread : goal.returns-in_err-eye-clause-unread
+returns-in_err-eye-clause-unread g c = unread-same _ _ c.in_err-eye.ensures.totals
+
+pub returns-clause-unread : goal.returns-clause-unread
+returns-clause-unread g c = unread-text _ _ _ _ _ _ _ c.in_ok-eye.ensures.totals c.in_ok-eye.ensures.fresh.0 c.all_bytes-bytes.ensures.duty c.retire.ensures.totals

@@ -18,4 +18,5 @@ returns-clause-reads c =
       p.2.0 (codes "workers") refl,
       p.2.0 (codes "budget") refl,
       p.2.0 (codes "plan") refl,
+      p.2.1 (codes "live"),
     ) refl) c.rebuild_values.ensures.reads
