@@ -1,0 +1,9 @@
+-- The words of a rebuild that is made ready and carried.
+pub mod Duties
+pub mod Orders
+pub mod Lawful
+pub mod Reads
+pub mod Reports
+pub mod Writing
+pub mod Written
+pub mod Carrying

@@ -1,0 +1,18 @@
+//! A rebuild that is made ready first: all its memory and all its eyes before anything is read, and then the reading,
+//! the mending and the writing, which take no more.
+#![tactic(auto)]
+
+mod asking;
+mod carrying;
+mod faults;
+mod orders;
+mod printing;
+mod reading;
+mod ready;
+mod writing;
+
+pub use carrying::{Carried, carry};
+pub use faults::CarryFault;
+pub use mr_steps::ChoiceLine as Line;
+pub use orders::Order;
+pub use ready::Ready;
