@@ -1,6 +1,7 @@
 //! The tests, a file for each part, and what they share.
 
 mod choices;
+mod drills;
 mod near;
 mod search;
 mod values;

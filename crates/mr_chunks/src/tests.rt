@@ -2,6 +2,5 @@
 
 mod answers;
 mod gates;
-mod marks;
 mod turns;
 mod values;

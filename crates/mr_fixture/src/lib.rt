@@ -1,6 +1,9 @@
-//! What tests of several crates share: matrix texts, and bytes shown as a text. No program uses it.
+//! What tests of several crates share: matrix texts, bytes shown as a text, and numbers
+//! that workers set and see. No program uses it.
 #![tactic(auto)]
 
+mod marks;
 mod texts;
 
+pub use marks::Mark;
 pub use texts::{RDP_3, RDP_5, shown};

@@ -3,3 +3,4 @@
 mod convert;
 mod devices;
 mod rebuild;
+mod scrub;

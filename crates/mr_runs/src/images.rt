@@ -21,7 +21,7 @@ pub const LEAST: &str =
 
 /// The rebuild of the image `i` of one stripe, whose device 0 is lost.
 pub const REBUILD: Case = Case {
-    words: &["rebuild", "m", "i", "0"],
+    words: &["rebuild", "m", "i", "0", "--workers=1"],
     files: &[("m", Bytes::Text(RDP_3)), ("i", Bytes::Image(HEAD, LOST))],
     out: Bytes::Image(HEAD, WHOLE),
     report: LEAST,

@@ -1,5 +1,7 @@
-//! The tests, all over row-diagonal parity of the prime 3: symbol 4 is the XOR of 0 and 2, 5 that of 1 and 3, 6 that of 0, 1
-//! and 3, and 7 that of 1 and 2.
+//! The tests. Those of named symbols are over row-diagonal parity of the prime 3: symbol 4 is the XOR of 0 and 2, 5 that of 1
+//! and 3, 6 that of 0, 1 and 3, and 7 that of 1 and 2.
+
+mod bits;
 
 use mr_bits::Matrix;
 use mr_fixture::{RDP_3, shown};

@@ -1,14 +1,13 @@
 -- The chain of a command gives what the command accepts.
 use Rattle.std.proofs.Common.{◌≡◌, ℕ, is_ok, List, Option, Some, None, Result, Ok, refl, sym, ◌∙◌, ap, option_map}
-use Rattle.mr_bits.specs.declared.errors.What.{What}
-use Rattle.mr_bits.specs.declared.errors.What.TheVariants.{MatrixBytes, PlanBytes}
+use Rattle.mr_bits.specs.declared.errors.What.TheVariants.{PlanBytes}
 use Rattle.mr_choices.specs.Handed.{handed_file, handed_given, plan_file, plan_file_given}
-use Rattle.mr_form.specs.MatrixText.{matrix_of}
 use Rattle.mr_image.specs.Images.{Layout}
 use Rattle.mr_mend.specs.declared.asks.Ask.{Ask}
 use Rattle.mr_model.specs.Code.{Code}
 use Rattle.mr_words.specs.declared.rebuild_words.RebuildWords.{RebuildWords}
-use Rattle.mr_steps.specs.Texts.{matrix_given, or_matrix_fault, within_limit}
+use Rattle.mr_steps.specs.Texts.{matrix_given, within_limit}
+pub use Rattle.mr_steps.proofs.Given.{matrix-is, text-is}
 use Rattle.mr_steps.proofs.Results.{nest, result-as, tells-ok, tells-value}
 use Rattle.mr_top.specs.Check.{check_accepted, check_written, cost_given}
 use Rattle.mr_top.specs.Encode.{encode_accepted, image_written, encoded_given, layout_given}
@@ -18,8 +17,9 @@ use Rattle.mr_steps.specs.Sinks.{Output}
 use Rattle.mr_steps.specs.TextFiles.{matrix_file, text_file}
 use Rattle.mr_top.specs.CheckSteps.{check_answer}
 use Rattle.mr_top.specs.EncodeSteps.{encode_answer, encoded_file}
+use Rattle.mr_top.specs.Findings.{Finding, rebuilding}
 use Rattle.mr_top.specs.PlanSteps.{plan_answer}
-use Rattle.mr_top.specs.RebuildSteps.{ImageParts, copied_image, head_file, image_file, image_read, lines_for, mended_image, plans_for, parts_as, rebuild_answer, rebuild_by, rebuilt_by, replied_image, mended_of}
+use Rattle.mr_top.specs.RebuildSteps.{ImageParts, head_file, image_file, image_read, order_of, parts_as, rebuild_answer, rebuild_by}
 use Rattle.mr_steps.specs.Losses.{targets_given}
 use Rattle.mr_steps.specs.Readings.{given}
 use Rattle.mr_steps.specs.Refusals.{followed_by}
@@ -31,16 +31,6 @@ use Rattle.mr_top.proofs.EncodeSteps.{code_next, head_next, image_next}
 use Rattle.mr_top.proofs.ImageSteps.{asks_next, handed_next, loss_next, matrix_next}
 
 -- ---- files
-
-text-is : (contents : List ℕ → List ℕ) (name : List ℕ) (what : What) → (text_file contents name what).result ≡ within_limit what (contents name)
-unfolding text_file
-text-is contents name what = refl
-
-pub matrix-is : (contents : List ℕ → List ℕ) (name : List ℕ) → (matrix_file contents name).result ≡ matrix_given (contents name)
-unfolding matrix_file
-matrix-is contents name =
-    result-as (text_file contents name MatrixBytes) (λ bytes. given (or_matrix_fault (matrix_of bytes)))
-    (within_limit MatrixBytes (contents name)) (λ bytes. or_matrix_fault (matrix_of bytes)) (text-is contents name MatrixBytes) (λ _. refl)
 
 pub handed-is : (contents : List ℕ → List ℕ) (plan : Option (List ℕ)) (m : Code) (targets : ℕ)
     → (handed_file contents plan m targets).result ≡ plan_file_given m targets (option_map contents plan)
@@ -132,9 +122,9 @@ module _ (contents : List ℕ → List ℕ) (matrix payload : List ℕ) (stripes
       ∙ sym (nest (matrix_given (contents matrix)) image_of_code image_next encode_by_code (λ m.
       nest (layout_given m bytes stripes) (λ l. encoded_given m l (contents payload)) image_next (encode_by_layout m) (λ _. refl)))
 
--- what a rebuild writes of what it read
-abbrev pub rebuild_written : RebuildAccepted → Output
-rebuild_written r = rebuilt_by r.layout r.plans r.lines r.asks (mended_of r.layout r.plans r.asks r.bytes)
+-- what is found of what a rebuild accepts
+abbrev pub rebuild_found : RebuildAccepted → Finding
+rebuild_found r = rebuilding r.order (Some r.bytes)
 
 module _ (contents : List ℕ → List ℕ) (left : List ℕ) (words : RebuildWords) where
   pub image-is : (image_read contents words).result ≡ followed_by (matrix_given (contents words.matrix)) (image_of_matrix contents words)
@@ -159,34 +149,34 @@ module _ (contents : List ℕ → List ℕ) (left : List ℕ) (words : RebuildWo
       tells-ok (plan_file_given m targets (option_map contents words.plan)) (image_of_plan contents words m targets) (λ handed. image_given m targets handed (contents words.image)) (λ handed.
       tells-value (image_given m targets handed (contents words.image)) (λ l. parts_as m targets handed l))))
 
-  -- what is written of what was read
-  abbrev written_of : ImageParts → List Ask → Output
-  written_of read asks = rebuilt_by read.head (plans_for words read) (lines_for words read) asks (mended_of read.head (plans_for words read) asks (contents words.image))
+  -- what is found of what was read
+  abbrev found_of : ImageParts → List Ask → Finding
+  found_of read asks = rebuilding (order_of words read asks) (Some (contents words.image))
 
-  abbrev by_read : ImageParts → Result Output Fault
-  by_read read = followed_by (asks_given read.head left) (λ asks. Ok (written_of read asks))
+  abbrev by_read : ImageParts → Result Finding Fault
+  by_read read = followed_by (asks_given read.head left) (λ asks. Ok (found_of read asks))
 
-  by-asks : (read : ImageParts) (asks : List Ask) → (rebuild_by contents words read asks).result ≡ Ok (written_of read asks)
-  unfolding rebuild_by mended_image replied_image copied_image
+  by-asks : (read : ImageParts) (asks : List Ask) → (rebuild_by contents words read asks).result ≡ Ok (found_of read asks)
+  unfolding rebuild_by
   by-asks read asks = refl
 
   chain-is : (rebuild_answer contents left words).result ≡ followed_by (followed_by (matrix_given (contents words.matrix)) (image_of_matrix contents words)) by_read
   unfolding rebuild_answer
   chain-is =
       result-as (image_read contents words) (asks_next contents left words) (followed_by (matrix_given (contents words.matrix)) (image_of_matrix contents words)) by_read image-is (λ read.
-      result-as (given (asks_given read.head left)) (rebuild_by contents words read) (asks_given read.head left) (λ asks. Ok (written_of read asks)) refl (by-asks read))
+      result-as (given (asks_given read.head left)) (rebuild_by contents words read) (asks_given read.head left) (λ asks. Ok (found_of read asks)) refl (by-asks read))
 
   -- both, step by step
-  abbrev by_head : Code → ℕ → Option ChosenPlan → Layout → Result Output Fault
+  abbrev by_head : Code → ℕ → Option ChosenPlan → Layout → Result Finding Fault
   by_head m targets handed l = by_read (parts_as m targets handed l)
 
-  abbrev by_handed : Code → ℕ → Option ChosenPlan → Result Output Fault
+  abbrev by_handed : Code → ℕ → Option ChosenPlan → Result Finding Fault
   by_handed m targets handed = followed_by (image_given m targets handed (contents words.image)) (by_head m targets handed)
 
-  abbrev by_loss : Code → ℕ → Result Output Fault
+  abbrev by_loss : Code → ℕ → Result Finding Fault
   by_loss m targets = followed_by (plan_file_given m targets (option_map contents words.plan)) (by_handed m targets)
 
-  abbrev by_code : Code → Result Output Fault
+  abbrev by_code : Code → Result Finding Fault
   by_code m = followed_by (targets_given m words.lost) (by_loss m)
 
   chain-steps : followed_by (followed_by (matrix_given (contents words.matrix)) (image_of_matrix contents words)) by_read ≡ followed_by (matrix_given (contents words.matrix)) by_code
@@ -196,16 +186,16 @@ module _ (contents : List ℕ → List ℕ) (left : List ℕ) (words : RebuildWo
       nest (plan_file_given m targets (option_map contents words.plan)) (image_of_plan contents words m targets) by_read (by_handed m targets) (λ handed.
       nest (image_given m targets handed (contents words.image)) (λ l. Ok (parts_as m targets handed l)) by_read (by_head m targets handed) (λ _. refl))))
 
-  abbrev all_written : RebuildAccepted → Result Output Fault
-  all_written r = Ok (rebuild_written r)
+  abbrev all_found : RebuildAccepted → Result Finding Fault
+  all_found r = Ok (rebuild_found r)
 
-  accepted-steps : followed_by (rebuild_accepted contents left words) all_written ≡ followed_by (matrix_given (contents words.matrix)) by_code
+  accepted-steps : followed_by (rebuild_accepted contents left words) all_found ≡ followed_by (matrix_given (contents words.matrix)) by_code
   accepted-steps =
-      nest (matrix_given (contents words.matrix)) (rebuild_of_matrix contents left words) all_written by_code (λ m.
-      nest (targets_given m words.lost) (rebuild_of_loss contents left words m) all_written (by_loss m) (λ targets.
-      nest (plan_file_given m targets (option_map contents words.plan)) (rebuild_of_plan contents left words m targets) all_written (by_handed m targets) (λ handed.
-      nest (image_given m targets handed (contents words.image)) (rebuild_of_head contents left words m targets handed) all_written (by_head m targets handed) (λ l.
-      nest (asks_given l left) (λ asks. Ok (rebuild_of_parts contents words m targets handed l asks)) all_written (λ asks. Ok (written_of (parts_as m targets handed l) asks)) (λ _. refl)))))
+      nest (matrix_given (contents words.matrix)) (rebuild_of_matrix contents left words) all_found by_code (λ m.
+      nest (targets_given m words.lost) (rebuild_of_loss contents left words m) all_found (by_loss m) (λ targets.
+      nest (plan_file_given m targets (option_map contents words.plan)) (rebuild_of_plan contents left words m targets) all_found (by_handed m targets) (λ handed.
+      nest (image_given m targets handed (contents words.image)) (rebuild_of_head contents left words m targets handed) all_found (by_head m targets handed) (λ l.
+      nest (asks_given l left) (λ asks. Ok (rebuild_of_parts contents words m targets handed l asks)) all_found (λ asks. Ok (found_of (parts_as m targets handed l) asks)) (λ _. refl)))))
 
-  pub rebuild-is : (rebuild_answer contents left words).result ≡ followed_by (rebuild_accepted contents left words) (λ r. Ok (rebuild_written r))
+  pub rebuild-is : (rebuild_answer contents left words).result ≡ followed_by (rebuild_accepted contents left words) (λ r. Ok (rebuild_found r))
   rebuild-is = chain-is ∙ chain-steps ∙ sym accepted-steps

@@ -1,33 +1,41 @@
 -- The chains of the commands and the relation between what is accepted and what is written.
-use Rattle.std.proofs.Common.{◌≡◌, ℕ, List, [], ◌++◌, Option, Some, None, IfSome, Result, Ok, Err, refl, sym, ◌∙◌, ap, subst, option_map}
+use Rattle.std.proofs.Common.{◌≡◌, ℕ, List, [], Option, Some, None, Result, Ok, Err, refl, sym, ◌∙◌, ap, subst, option_map}
 use Rattle.mr_choices.specs.Handed.{plan_file_given}
 use Rattle.mr_bits.specs.Matrices.{IsMatrixCode}
-use Rattle.mr_image.specs.Rotated.{rotations}
-use Rattle.mr_plan.specs.PlanLists.{recipes_at}
-use Rattle.mr_mend.proofs.ReplyImages.{mended-lines}
 use Rattle.mr_words.specs.declared.rebuild_words.RebuildWords.{RebuildWords}
 use Rattle.mr_io.specs.Growth.{no_bytes}
-use Rattle.mr_steps.specs.Refusals.{Gave, refusal_of}
+use Rattle.mr_ready.specs.Orders.{OrderParts}
+use Rattle.mr_ready.specs.Writing.{IsOutput}
+use Rattle.mr_steps.specs.Refusals.{Gave, followed_by, refusal_of}
 use Rattle.mr_steps.specs.Texts.{matrix_given}
 use Rattle.mr_steps.proofs.Results.{gave-followed, gave-then, ok-same, refusal-followed}
-use Rattle.mr_top.specs.Rebuild.{RebuildAccepted, image_given, lines_used, plans_report, plans_used, rebuild_accepted, IsRebuilt, asks_given}
+use Rattle.mr_top.specs.Rebuild.{RebuildAccepted, image_given, order_for, rebuild_accepted, asks_given}
 use Rattle.mr_steps.specs.Sinks.{Output}
 use Rattle.mr_top.specs.Answered.{IsAnswer, IsAnswered, refusal, words_refusal}
 use Rattle.mr_top.specs.Commands.{answer, command_answer}
 use Rattle.mr_top.specs.RebuildSteps.{rebuild_answer}
+use Rattle.mr_top.specs.CheckSteps.{check_answer}
+use Rattle.mr_top.specs.Convert.{convert_answer}
+use Rattle.mr_top.specs.EncodeSteps.{encode_answer}
+use Rattle.mr_top.specs.Findings.{Finding, MayWrite, rebuilding, to_write, writing}
+use Rattle.mr_top.specs.Make.{make_given}
+use Rattle.mr_top.specs.PlanSteps.{plan_answer}
+use Rattle.mr_top.specs.Scrub.{scrub_answer}
 use Rattle.mr_top.specs.Check.{check_written}
 use Rattle.mr_top.specs.Encode.{image_written}
 use Rattle.mr_top.specs.Plan.{plan_written}
 use Rattle.mr_steps.specs.Losses.{targets_given}
-use Rattle.mr_steps.specs.Readings.{and_then}
+use Rattle.mr_steps.specs.Readings.{Reading, and_then, given}
 use Rattle.mr_steps.specs.Requests.{or_usage, rebuild_words, request_of}
 use Rattle.mr_choices.specs.declared.chosen.ChosenPlan.{ChosenPlan}
 use Rattle.mr_steps.specs.declared.fault.Fault.{Fault}
 use Rattle.mr_steps.specs.declared.request.Request.{Request}
-use Rattle.mr_steps.specs.declared.request.Request.TheVariants.{Check, Convert, Encode, Make, Plan, Rebuild}
-use Rattle.mr_top.proofs.Accepting.{check-is, encode-is, plan-is, rebuild-is, rebuild_written}
-use Rattle.mr_top.proofs.CodewordsOwn.{asks-inside, given-code}
+use Rattle.mr_steps.specs.declared.request.Request.TheVariants.{Check, Convert, Encode, Make, Plan, Rebuild, Scrub}
+use Rattle.mr_top.proofs.Accepting.{check-is, encode-is, plan-is, rebuild-is, rebuild_found}
+use Rattle.mr_top.proofs.CodewordsOwn.{given-code}
 use Rattle.mr_top.proofs.Converting.{convert-is}
+use Rattle.mr_top.proofs.Scrubbing.{scrub-is}
+use Rattle.mr_top.proofs.Findings.{refusal-written, writes-own, writing-of}
 use Rattle.mr_top.proofs.HeadLimits.{IsImageGiven, image-given}
 
 -- ---- what a rebuild accepts
@@ -38,11 +46,10 @@ pub record AcceptedBy (contents : List ℕ → List ℕ) (left : List ℕ) (word
   pub matrix_is : matrix_given (contents words.matrix) ≡ Ok r.code
   pub lost_is : targets_given r.code words.lost ≡ Ok r.lost
   pub handed_is : plan_file_given r.code r.lost (option_map contents words.plan) ≡ Ok handed
-  pub plans_is : r.plans ≡ plans_used r.code r.lost words.budget (rotations r.layout) handed
-  pub lines_is : r.lines ≡ lines_used r.code r.lost words.budget (rotations r.layout) handed
-  pub layout_is : image_given r.code r.lost handed (contents words.image) ≡ Ok r.layout
+  pub order_is : r.order ≡ order_for words r.code r.lost handed r.order.head r.order.asks
+  pub layout_is : image_given r.code r.lost handed (contents words.image) ≡ Ok r.order.head
   pub bytes_is : r.bytes ≡ contents words.image
-  pub asks_is : asks_given r.layout left ≡ Ok r.asks
+  pub asks_is : asks_given r.order.head left ≡ Ok r.order.asks
 
 pub accepted-by : (contents : List ℕ → List ℕ) (left : List ℕ) (words : RebuildWords) (r : RebuildAccepted)
     → rebuild_accepted contents left words ≡ Ok r → AcceptedBy contents left words r
@@ -57,8 +64,7 @@ accepted-by contents left words r e =
       matrix_is = a.is;
       lost_is = b.is;
       handed_is = d.is;
-      plans_is = refl;
-      lines_is = refl;
+      order_is = refl;
       layout_is = f.is;
       bytes_is = refl;
       asks_is = k.is;
@@ -70,58 +76,90 @@ accepted-code contents left words r by = given-code (contents words.matrix) r.co
 
 -- its image
 pub accepted-image : (contents : List ℕ → List ℕ) (left : List ℕ) (words : RebuildWords) (r : RebuildAccepted) (by : AcceptedBy contents left words r)
-    → IsImageGiven r.code r.lost by.handed r.bytes r.layout
+    → IsImageGiven r.code r.lost by.handed r.bytes r.order.head
 accepted-image contents left words r by =
-    image-given r.code r.lost by.handed r.bytes r.layout (accepted-code contents left words r by) (ap (image_given r.code r.lost by.handed) by.bytes_is ∙ by.layout_is)
-
--- what is written of it
-is-rebuilt : (contents : List ℕ → List ℕ) (left : List ℕ) (words : RebuildWords) (r : RebuildAccepted) (output : Output)
-    → AcceptedBy contents left words r → output ≡ rebuild_written r → IsRebuilt r output
-is-rebuilt contents left words r output by e =
-    let image = accepted-image contents left words r by in
-    record {
-      image = ap (λ (o : Output). o.out) e;
-      report = ap (λ (o : Output). o.report) e
-          ∙ ap (λ lines. plans_report r.layout r.plans r.lines ++ lines)
-          (mended-lines r.layout (recipes_at r.plans) r.bytes r.asks image.limits.long (asks-inside r.layout left r.asks by.asks_is));
-    }
+    image-given r.code r.lost by.handed r.bytes r.order.head (accepted-code contents left words r by) (ap (image_given r.code r.lost by.handed) by.bytes_is ∙ by.layout_is)
 
 -- ---- requests
 
-rebuild-answered : (contents : List ℕ → List ℕ) (left : List ℕ) (words : RebuildWords) (output : Output)
-    → (rebuild_answer contents left words).result ≡ Ok output → Gave (rebuild_accepted contents left words) (λ r. IsRebuilt r output)
-rebuild-answered contents left words output e =
-    let g = gave-followed (rebuild_accepted contents left words) rebuild_written output (sym (rebuild-is contents left words) ∙ e) in
-    let by = accepted-by contents left words g.value g.is in
-    record { value = g.value; is = g.is; holds = is-rebuilt contents left words g.value output by g.holds }
+-- what is accepted of a rebuild that was found
+pub rebuild-accepted : (contents : List ℕ → List ℕ) (left : List ℕ) (words : RebuildWords) (found : Finding)
+    → (rebuild_answer contents left words).result ≡ Ok found → Gave (rebuild_accepted contents left words) (λ r. found ≡ rebuild_found r)
+rebuild-accepted contents left words found e =
+    gave-followed (rebuild_accepted contents left words) rebuild_found found (sym (rebuild-is contents left words) ∙ e)
 
-pub is-answered : (request : Request) (contents : List ℕ → List ℕ) (left : List ℕ) (output : Output)
-    → (command_answer contents left request).result ≡ Ok output → IsAnswered request contents left output
-is-answered (Plan matrix lost workers budget) contents left output e =
-    gave-followed _ plan_written output (sym (plan-is contents matrix lost budget) ∙ e)
-is-answered (Check matrix lost plan) contents left output e =
-    gave-followed _ check_written output (sym (check-is contents matrix lost plan) ∙ e)
-is-answered (Make code p) contents left output e = e
-is-answered (Encode matrix payload stripes bytes) contents left output e =
-    gave-followed _ image_written output (sym (encode-is contents matrix payload stripes bytes) ∙ e)
-is-answered (Rebuild matrix image lost workers budget plan) contents left output e =
-    rebuild-answered contents left (rebuild_words matrix image lost workers budget plan) output e
-is-answered (Convert matrix image) contents left output e =
-    gave-followed _ image_written output (sym (convert-is contents matrix image) ∙ e)
+rebuild-answered : (contents : List ℕ → List ℕ) (left : List ℕ) (words : RebuildWords) (found : Finding) (output : Output)
+    → (rebuild_answer contents left words).result ≡ Ok found → MayWrite found output → Gave (rebuild_accepted contents left words) (λ r. IsOutput r.order r.bytes output)
+rebuild-answered contents left words found output e may =
+    let g = rebuild-accepted contents left words found e in
+    record { value = g.value; is = g.is; holds = subst (λ f. MayWrite f output) g.holds may }
+
+-- the output that is to be written is that of what is accepted
+written-as : {X : Type 0} (r : Result X Fault) (reading : Reading Output) (written : X → Output) (found : Finding) (output : Output)
+    → reading.result ≡ followed_by r (λ x. Ok (written x)) → (to_write reading).result ≡ Ok found → MayWrite found output → Gave r (λ x. output ≡ written x)
+written-as r reading written found output is e may =
+    let w = writing-of reading found e in
+    let g = gave-followed r written w.output (sym is ∙ w.result_is) in
+    record { value = g.value; is = g.is; holds = writes-own reading found output w may ∙ g.holds }
+
+made-as : (r : Result Output Fault) (found : Finding) (output : Output) → (to_write (given r)).result ≡ Ok found → MayWrite found output → r ≡ Ok output
+made-as r found output e may =
+    let w = writing-of (given r) found e in
+    w.result_is ∙ ap (λ (o : Output). Ok o) (sym (writes-own (given r) found output w may))
+
+pub is-answered : (request : Request) (contents : List ℕ → List ℕ) (left : List ℕ) (found : Finding) (output : Output)
+    → (command_answer contents left request).result ≡ Ok found → MayWrite found output → IsAnswered request contents left output
+is-answered (Plan matrix lost workers budget) contents left found output e may =
+    written-as _ (plan_answer contents matrix lost budget) plan_written found output (plan-is contents matrix lost budget) e may
+is-answered (Check matrix lost plan) contents left found output e may =
+    written-as _ (check_answer contents matrix lost plan) check_written found output (check-is contents matrix lost plan) e may
+is-answered (Make code p) contents left found output e may = made-as (make_given code p) found output e may
+is-answered (Encode matrix payload stripes bytes) contents left found output e may =
+    written-as _ (encode_answer contents matrix payload stripes bytes) image_written found output (encode-is contents matrix payload stripes bytes) e may
+is-answered (Rebuild matrix image lost workers budget plan live) contents left found output e may =
+    rebuild-answered contents left (rebuild_words matrix image lost workers budget plan live) found output e may
+is-answered (Convert matrix image) contents left found output e may =
+    written-as _ (convert_answer contents matrix image) image_written found output (convert-is contents matrix image) e may
+is-answered (Scrub matrix image) contents left found output e may =
+    let w = writing-of (scrub_answer contents matrix image) found e in
+    sym (scrub-is contents matrix image) ∙ w.result_is ∙ ap (λ (o : Output). Ok o) (sym (writes-own (scrub_answer contents matrix image) found output w may))
 
 pub refusal-is : (request : Request) (contents : List ℕ → List ℕ) (left : List ℕ)
     → refusal_of (command_answer contents left request).result ≡ refusal contents left request
 refusal-is (Plan matrix lost workers budget) contents left =
-    ap refusal_of (plan-is contents matrix lost budget) ∙ refusal-followed _ plan_written
+    refusal-written (plan_answer contents matrix lost budget) ∙ ap refusal_of (plan-is contents matrix lost budget) ∙ refusal-followed _ plan_written
 refusal-is (Check matrix lost plan) contents left =
-    ap refusal_of (check-is contents matrix lost plan) ∙ refusal-followed _ check_written
-refusal-is (Make code p) contents left = refl
+    refusal-written (check_answer contents matrix lost plan) ∙ ap refusal_of (check-is contents matrix lost plan) ∙ refusal-followed _ check_written
+refusal-is (Make code p) contents left = refusal-written (given (make_given code p))
 refusal-is (Encode matrix payload stripes bytes) contents left =
-    ap refusal_of (encode-is contents matrix payload stripes bytes) ∙ refusal-followed _ image_written
-refusal-is (Rebuild matrix image lost workers budget plan) contents left =
-    ap refusal_of (rebuild-is contents left (rebuild_words matrix image lost workers budget plan)) ∙ refusal-followed _ rebuild_written
+    refusal-written (encode_answer contents matrix payload stripes bytes) ∙ ap refusal_of (encode-is contents matrix payload stripes bytes) ∙ refusal-followed _ image_written
+refusal-is (Rebuild matrix image lost workers budget plan live) contents left =
+    ap refusal_of (rebuild-is contents left (rebuild_words matrix image lost workers budget plan live)) ∙ refusal-followed _ rebuild_found
 refusal-is (Convert matrix image) contents left =
-    ap refusal_of (convert-is contents matrix image) ∙ refusal-followed _ image_written
+    refusal-written (convert_answer contents matrix image) ∙ ap refusal_of (convert-is contents matrix image) ∙ refusal-followed _ image_written
+refusal-is (Scrub matrix image) contents left = refusal-written (scrub_answer contents matrix image) ∙ ap refusal_of (scrub-is contents matrix image)
+
+-- an image that is to be rebuilt is told where the files tell
+abbrev image-in : Finding → Option (List ℕ)
+image-in (writing output) = None
+image-in (rebuilding order image) = image
+
+not-written : (reading : Reading Output) (order : OrderParts) (image : Option (List ℕ)) → (to_write reading).result ≡ Ok (rebuilding order image) → ⊥
+not-written reading order image e =
+    let w = writing-of reading (rebuilding order image) e in
+    let clash : rebuilding order image ≡ writing w.output = w.is in cc
+
+pub found-told : (request : Request) (contents : List ℕ → List ℕ) (left : List ℕ) (order : OrderParts) (image : Option (List ℕ))
+    → (command_answer contents left request).result ≡ Ok (rebuilding order image) → (bytes : List ℕ) × (image ≡ Some bytes)
+found-told (Plan matrix lost workers budget) contents left order image e = absurd (not-written (plan_answer contents matrix lost budget) order image e)
+found-told (Check matrix lost plan) contents left order image e = absurd (not-written (check_answer contents matrix lost plan) order image e)
+found-told (Make code p) contents left order image e = absurd (not-written (given (make_given code p)) order image e)
+found-told (Encode matrix payload stripes bytes) contents left order image e = absurd (not-written (encode_answer contents matrix payload stripes bytes) order image e)
+found-told (Rebuild matrix file lost workers budget plan live) contents left order image e =
+    let g = rebuild-accepted contents left (rebuild_words matrix file lost workers budget plan live) (rebuilding order image) e in
+    (g.value.bytes, ap image-in g.holds)
+found-told (Convert matrix file) contents left order image e = absurd (not-written (convert_answer contents matrix file) order image e)
+found-told (Scrub matrix file) contents left order image e = absurd (not-written (scrub_answer contents matrix file) order image e)
 
 -- ---- words
 
@@ -134,12 +172,22 @@ words-refusal-is words contents left = go (request_of words)
     go None = refl
     go (Some request) = refusal-is request contents left
 
-pub is-answer : (words : List (List ℕ)) (contents : List ℕ → List ℕ) (left : List ℕ) (output : Output)
-    → (answer words contents left).result ≡ Ok output → IsAnswer words contents left output
+pub is-answer : (words : List (List ℕ)) (contents : List ℕ → List ℕ) (left : List ℕ) (found : Finding) (output : Output)
+    → (answer words contents left).result ≡ Ok found → MayWrite found output → IsAnswer words contents left output
 unfolding answer
-is-answer words contents left output = go (request_of words) refl
+is-answer words contents left found output = go (request_of words) refl
   where
     go : (o : Option Request) → request_of words ≡ o
-        → (and_then [] no_bytes (or_usage o) (command_answer contents left)).result ≡ Ok output → IsAnswer words contents left output
-    go None e is = let clash : ◌≡◌ {A = Result Output Fault} (Err _) (Ok output) = is in cc
-    go (Some request) e is = record { request = request; is = e; answered = is-answered request contents left output is }
+        → (and_then [] no_bytes (or_usage o) (command_answer contents left)).result ≡ Ok found → MayWrite found output → IsAnswer words contents left output
+    go None e is may = let clash : ◌≡◌ {A = Result Finding Fault} (Err _) (Ok found) = is in cc
+    go (Some request) e is may = record { request = request; is = e; answered = is-answered request contents left found output is may }
+
+pub words-told : (words : List (List ℕ)) (contents : List ℕ → List ℕ) (left : List ℕ) (order : OrderParts) (image : Option (List ℕ))
+    → (answer words contents left).result ≡ Ok (rebuilding order image) → (bytes : List ℕ) × (image ≡ Some bytes)
+unfolding answer
+words-told words contents left order image = go (request_of words)
+  where
+    go : (o : Option Request) → (and_then [] no_bytes (or_usage o) (command_answer contents left)).result ≡ Ok (rebuilding order image)
+        → (bytes : List ℕ) × (image ≡ Some bytes)
+    go None is = let clash : ◌≡◌ {A = Result Finding Fault} (Err _) (Ok (rebuilding order image)) = is in cc
+    go (Some request) is = found-told request contents left order image is

@@ -1,88 +1,33 @@
 -- What a rebuild accepts is sound: the matrix, the loss, a plan that is handed in, and what the script asks for.
-use Rattle.std.proofs.Common.{arith, ◌≡◌, ◌+◌, ◌*◌, ◌<◌, ◌^◌, ◌==◌, ◌&&◌, nat_lt, zero, suc, ℕ, Bool, true, false, cond, List, [], ◌∷◌, All, length, Option, Some, None, IfSome, Result, Ok, Err, refl, subst, ap}
-use Rattle.mr_model.specs.Code.{Code, is_determined}
-use Rattle.mr_model.specs.Search.{Choice, Least, Spent, chosen}
-use Rattle.mr_model.specs.Laws.{IsLean}
-use Rattle.mr_model.specs.Plans.{IsValidPlan}
-use Rattle.mr_model.proofs.SearchSingle.{choice-lean}
-use Rattle.mr_bits.specs.Matrices.{IsMatrixCode}
-use Rattle.mr_bits.specs.declared.errors.What.TheVariants.{MatrixBytes, PlanBytes}
-use Rattle.mr_choices.specs.Chosen.{choice_for, chosen_by, plan_by}
+use Rattle.std.proofs.Common.{◌≡◌, ℕ, List, All, Option, Some, None, IfSome, Result, Ok, Err, refl, subst}
+use Rattle.mr_model.specs.Code.{Code}
+use Rattle.mr_bits.specs.declared.errors.What.TheVariants.{PlanBytes}
 use Rattle.mr_choices.specs.Handed.{as_given, handed_file, handed_given, or_wrong, or_plan_line, plan_file_given, sound_given}
 use Rattle.mr_choices.specs.declared.chosen.ChosenPlan.{ChosenPlan}
-use Rattle.mr_eq.specs.Problems.{IsLoss}
-use Rattle.mr_eq.proofs.Losses.{determined-from, loss-cost, targets-small}
-use Rattle.mr_form.specs.MatrixText.{matrix_of}
-use Rattle.mr_form.specs.declared.faults.MatrixFault.{MatrixFault}
-use Rattle.mr_form.proofs.Readings.{matrix_of-limits}
 use Rattle.mr_image.specs.Images.{Layout}
 use Rattle.mr_mend.specs.Scripts.{IsInRange, asks_of}
 use Rattle.mr_mend.proofs.ScriptFaults.{asks-in_range}
 use Rattle.mr_mend.specs.declared.asks.Ask.{Ask}
 use Rattle.mr_mend.specs.declared.asks.ScriptFault.{ScriptFault}
 use Rattle.mr_plan.specs.Checks.{first_fault, sound_unless}
-use Rattle.mr_plan.specs.Plans.{PlanParts, survivors}
+use Rattle.mr_plan.specs.Plans.{PlanParts}
 use Rattle.mr_plan.specs.Readings.{read_plan}
 use Rattle.mr_plan.specs.declared.errors.Wrong.{Wrong}
 use Rattle.mr_plan.proofs.CheckLaws.{valid-sound}
-use Rattle.mr_plan.proofs.PlanLaws.{plan_of-valid}
-use Rattle.mr_steps.specs.TextFiles.{matrix_file, text_file}
-use Rattle.mr_steps.specs.Texts.{matrix_given, or_matrix_fault, within_limit}
+use Rattle.mr_steps.specs.TextFiles.{matrix_file}
+use Rattle.mr_steps.specs.Texts.{within_limit}
 use Rattle.mr_steps.proofs.Results.{gave-on, gave-then, ok-same}
+pub use Rattle.mr_steps.proofs.Given.{given-code, targets-loss}
+pub use Rattle.mr_choices.proofs.Wanted.{Valid, chosen-valid}
 use Rattle.mr_top.specs.RebuildSteps.{ImageParts, image_file, image_read, parts_as}
-use Rattle.mr_steps.specs.Losses.{loss_of, lost_given, symbols_of_devices, targets_given, unless_symbol}
+use Rattle.mr_steps.specs.Losses.{targets_given}
 use Rattle.mr_steps.specs.Readings.{given}
 use Rattle.mr_top.specs.Rebuild.{asks_given, or_script_fault, script_within}
 use Rattle.mr_steps.specs.declared.fault.Fault.{Fault}
 use Rattle.mr_words.specs.declared.rebuild_words.RebuildWords.{RebuildWords}
 use Rattle.mr_top.proofs.ImageSteps.{handed_next, loss_next, matrix_next}
-use Rattle.mr_steps.proofs.LostSymbols.{lost-below, survivors-apart, survivors-below}
-
--- ---- a matrix that is read is within the limits
-
-matrix-ok : (r : Result Code MatrixFault) (m : Code) → or_matrix_fault r ≡ Ok m → r ≡ Ok m
-matrix-ok (Ok k) m e = ap (λ (x : Code). Ok x) (ok-same e)
-matrix-ok (Err fault) m e = let clash : ◌≡◌ {A = Result Code Fault} (Err _) (Ok m) = e in cc
-
-pub given-code : (bytes : List ℕ) (m : Code) → matrix_given bytes ≡ Ok m → IsMatrixCode m
-given-code bytes m e =
-    let a = gave-then (within_limit MatrixBytes bytes) (λ text. or_matrix_fault (matrix_of text)) m e in
-    matrix_of-limits a.value m (matrix-ok (matrix_of a.value) m a.holds)
-
--- ---- the lost symbols are a loss
-
-determined-targets : (o : Option ℕ) (lost targets : ℕ) → unless_symbol o lost ≡ Ok targets → (o ≡ None) × (lost ≡ targets)
-determined-targets None lost targets e = (refl, ok-same e)
-determined-targets (Some t) lost targets e = let clash : ◌≡◌ {A = Result ℕ Fault} (Err _) (Ok targets) = e in cc
-
-pub targets-loss : (m : Code) (lost : List ℕ) (targets : ℕ) → IsMatrixCode m → targets_given m lost ≡ Ok targets → IsLoss (loss_of m targets)
-unfolding targets_given
-targets-loss m lost targets code e =
-    let f = gave-then (lost_given m.devices lost) _ targets e in
-    let d = determined-targets _ (symbols_of_devices m f.value) targets f.holds in
-    record {
-      code_is = code;
-      avail_below = survivors-below m targets;
-      targets_below = subst (λ t. t < 2 ^ length m.rows) d.1 (lost-below m f.value);
-      apart = survivors-apart m targets;
-      determined = subst (λ t. is_determined m (survivors m t) t ≡ true) d.1 (determined-from m (survivors m (symbols_of_devices m f.value)) (symbols_of_devices m f.value) d.0);
-    }
 
 -- ---- the plan is valid
-
-abbrev pub Valid : Code → ℕ → PlanParts → Type 0
-Valid m targets plan = IsValidPlan m (survivors m targets) targets plan.set plan.recipes
-
-pub chosen-valid : (m : Code) (targets budget : ℕ) → IsLoss (loss_of m targets) → Valid m targets (chosen_by m targets budget).plan
-unfolding chosen
-chosen-valid m targets budget loss = go (choice_for m targets budget) refl
-  where
-    lean : IsLean m (survivors m targets) targets (chosen (choice_for m targets budget))
-    lean = choice-lean m (survivors m targets) targets budget (targets-small (loss_of m targets) loss) loss.determined (loss-cost (loss_of m targets) loss)
-
-    go : (c : Choice) → choice_for m targets budget ≡ c → Valid m targets (plan_by m targets c)
-    go (Least set work) e = plan_of-valid m (survivors m targets) targets set (subst (λ c. IsLean m (survivors m targets) targets (chosen c)) e lean) (targets-small (loss_of m targets) loss)
-    go (Spent set) e = plan_of-valid m (survivors m targets) targets set (subst (λ c. IsLean m (survivors m targets) targets (chosen c)) e lean) (targets-small (loss_of m targets) loss)
 
 no-fault : (o : Option Wrong) (u : Unit {0}) → or_wrong (sound_unless o) ≡ Ok u → o ≡ None
 no-fault None u e = refl

@@ -17,23 +17,24 @@ use Rattle.mr_steps.specs.Texts.{or_matrix_fault}
 use Rattle.mr_top.specs.CheckSteps.{check_answer}
 use Rattle.mr_top.specs.Commands.{answer, command_answer}
 use Rattle.mr_top.specs.EncodeSteps.{encode_answer, encoded_file}
-use Rattle.mr_top.specs.Eyes.{command_eyes, image_eyes, mend_eyes, plan_eyes}
+use Rattle.mr_top.specs.Findings.{Finding}
+use Rattle.mr_top.specs.Eyes.{command_eyes, plan_eyes}
 use Rattle.mr_top.specs.Plan.{plan_given}
 use Rattle.mr_top.specs.PlanSteps.{plan_answer}
-use Rattle.mr_top.specs.RebuildSteps.{ImageParts, copied_image, head_file, image_file, mended_image, image_read, lines_for, plans_for, parts_as, rebuild_answer, rebuild_by, rebuilt_by, replied_image}
+use Rattle.mr_top.specs.RebuildSteps.{ImageParts, head_file, image_file, image_read, parts_as, rebuild_answer, rebuild_by}
 use Rattle.mr_steps.specs.Readings.{Reading, given, and_then, ◌>>=◌}
 use Rattle.mr_steps.specs.Requests.{or_usage, rebuild_words, request_of}
 use Rattle.mr_steps.specs.Steps.{FollowsWith}
 use Rattle.mr_steps.specs.declared.fault.Fault.{Fault}
 use Rattle.mr_steps.specs.declared.request.Request.{Request}
-use Rattle.mr_steps.specs.declared.request.Request.TheVariants.{Check, Convert, Encode, Make, Plan, Rebuild}
+use Rattle.mr_steps.specs.declared.request.Request.TheVariants.{Check, Convert, Encode, Make, Plan, Rebuild, Scrub}
 use Rattle.mr_top.specs.Check.{cost_given}
 use Rattle.mr_steps.specs.Losses.{targets_given}
 use Rattle.mr_steps.proofs.Chains.{eyes-given}
 use Rattle.mr_image.specs.Images.{Layout}
 use Rattle.mr_model.specs.Code.{Code}
 use Rattle.mr_top.specs.Encode.{layout_given}
-use Rattle.mr_plan.specs.Plans.{PlanParts, survivors}
+use Rattle.mr_ready.specs.Duties.{duties_of, eyes_on}
 use Rattle.mr_top.specs.Rebuild.{asks_given, layout_allowed}
 use Rattle.mr_choices.specs.Handed.{handed_file, handed_given, plan_file}
 use Rattle.mr_choices.specs.declared.chosen.ChosenPlan.{ChosenPlan}
@@ -41,8 +42,9 @@ use Rattle.mr_words.specs.declared.rebuild_words.RebuildWords.{RebuildWords}
 use Rattle.mr_top.proofs.ImageSteps.{asks_next, handed_next, loss_next, matrix_next}
 use Rattle.mr_top.proofs.EncodeSteps.{code_next, head_next, image_next}
 use Rattle.mr_top.proofs.CheckSteps.{cost_next, lost_next, plan_next, valid_next}
-use Rattle.mr_top.specs.WholeImages.{allowed_answer, body_answer, image_answer}
+use Rattle.mr_top.specs.WholeImages.{allowed_answer, any_version, body_answer, image_answer}
 use Rattle.mr_top.specs.Convert.{converted_output, first_version}
+use Rattle.mr_top.specs.Scrub.{scrub_output}
 use Rattle.mr_top.proofs.WholeImages.{body_next, layout_next, spelled_next}
 
 eyes-text_file : (contents : List ℕ → List ℕ) (name : List ℕ) → (text_file contents name MatrixBytes).eyes ≡ record { name = name; duty = Text } ∷ []
@@ -130,18 +132,10 @@ unfolding image_file
 eyes-image_file contents image m targets handed =
     eyes-given (head_file contents image m) (layout_allowed m targets handed) ∙ eyes-head_file contents image m
 
-eyes-mended_image : (contents : List ℕ → List ℕ) (image : List ℕ) (set : ℕ) (l : Layout) (plans : List PlanParts) (asks : List Ask)
-    → (mended_image contents image set l plans asks).eyes ≡ mend_eyes image
-unfolding mended_image replied_image copied_image
-eyes-mended_image contents image set l plans asks = refl
-
 pub eyes-rebuild_by : (contents : List ℕ → List ℕ) (words : RebuildWords) (read : ImageParts) (asks : List Ask)
-    → (rebuild_by contents words read asks).eyes ≡ mend_eyes words.image
+    → (rebuild_by contents words read asks).eyes ≡ eyes_on words.image (duties_of words.workers words.live)
 unfolding rebuild_by
-eyes-rebuild_by contents words read asks =
-    eyes-given (mended_image contents words.image (survivors read.matrix read.lost) read.head (plans_for words read) asks)
-    (λ mended. Ok (rebuilt_by read.head (plans_for words read) (lines_for words read) asks mended))
-    ∙ eyes-mended_image contents words.image (survivors read.matrix read.lost) read.head (plans_for words read) asks
+eyes-rebuild_by contents words read asks = refl
 
 -- A chain asks for a front of these eyes, and for all of them where it gives a value.
 record Fronts {X : Type 0} (reading : Reading X) (all : List Asked) : Type 0 where
@@ -188,18 +182,27 @@ fronts-image_read contents words =
     (fronts-same _ _ (eyes-handed_file contents words.plan m targets)) (λ handed.
     fronts-same _ _ (eyes-given (image_file contents words.image m targets handed) (λ l. Ok (parts_as m targets handed l)) ∙ eyes-image_file contents words.image m targets handed))))
 
+none-before : (eyes : List Asked) → [] ++ eyes ≡ eyes
+none-before [] = refl
+none-before (eye ∷ eyes) = refl
+
 -- all eyes of a rebuild
 front-rebuild_answer : (contents : List ℕ → List ℕ) (left : List ℕ) (words : RebuildWords)
-    → IsFront (rebuild_answer contents left words).eyes (record { name = words.matrix; duty = Text } ∷ plan_eyes words.plan ++ image_eyes words.image)
+    → IsFront (rebuild_answer contents left words).eyes
+    (record { name = words.matrix; duty = Text } ∷ (plan_eyes words.plan ++ (record { name = words.image; duty = Head } ∷ eyes_on words.image (duties_of words.workers words.live))))
 unfolding rebuild_answer
 front-rebuild_answer contents left words =
     subst (λ eyes. IsFront (rebuild_answer contents left words).eyes (record { name = words.matrix; duty = Text } ∷ eyes))
-    (append_assoc (plan_eyes words.plan) (head_eyes words.image) (mend_eyes words.image))
+    (append_assoc (plan_eyes words.plan) (head_eyes words.image) all ∙ ap (λ eyes. plan_eyes words.plan ++ (record { name = words.image; duty = Head } ∷ eyes)) (none-before all))
     (fronts-then (image_read contents words) (asks_next contents left words)
-    (record { name = words.matrix; duty = Text } ∷ (plan_eyes words.plan ++ head_eyes words.image)) (mend_eyes words.image)
+    (record { name = words.matrix; duty = Text } ∷ (plan_eyes words.plan ++ head_eyes words.image)) all
     (fronts-image_read contents words) (λ read.
-    fronts-then (given (asks_given read.head left)) (rebuild_by contents words read) [] (mend_eyes words.image) (fronts-same _ _ refl) (λ asks.
-    fronts-same _ _ (eyes-rebuild_by contents words read asks)))).front
+    subst (λ eyes. Fronts (asks_next contents left words read) eyes) (none-before all)
+    (fronts-then (given (asks_given read.head left)) (rebuild_by contents words read) [] all (fronts-same _ _ refl) (λ asks.
+    fronts-same _ _ (eyes-rebuild_by contents words read asks))))).front
+  where
+    all : List Asked
+    all = eyes_on words.image (duties_of words.workers words.live)
 
 -- ---- commands that read an image file whole
 
@@ -236,10 +239,11 @@ front-answer words contents left = go (request_of words)
     go None = front_same [] [] refl
     go (Some (Make code p)) = front_same [] [] refl
     go (Some (Encode matrix payload stripes bytes)) = front-encode_answer contents matrix payload stripes bytes
-    go (Some (Rebuild matrix image lost workers budget plan)) =
-        front-rebuild_answer contents left (rebuild_words matrix image lost workers budget plan)
+    go (Some (Rebuild matrix image lost workers budget plan live)) =
+        front-rebuild_answer contents left (rebuild_words matrix image lost workers budget plan live)
     go (Some (Check matrix lost plan)) = front-check_answer contents matrix lost plan
     go (Some (Convert matrix image)) = front-whole first_version (λ _. converted_output) contents matrix image
+    go (Some (Scrub matrix image)) = front-whole any_version scrub_output contents matrix image
     go (Some (Plan matrix lost workers budget)) = front_same _ _ (eyes-plan_answer contents matrix lost budget)
 
 -- a front of a front
@@ -247,8 +251,13 @@ asks_front : (told : Told) (new : Option Told) (front all : List Asked) → IsFr
 asks_front told new front all f h = subst (λ eyes. AsksFront told new eyes) f.joined (asks_more told new front f.rest h)
 
 -- what was asked for besides is a front of the command's eyes
-pub asks_of_command : {X : Type 0} (view : X → Output) (old new : Option Told) (t0 t1 : Totals) (script : Option (List ℕ)) (result : Result X Fault) (words : List (List ℕ))
+pub asks_of_command : {X : Type 0} (view : X → Finding) (old new : Option Told) (t0 t1 : Totals) (script : Option (List ℕ)) (result : Result X Fault) (words : List (List ℕ))
     → FollowsWith view old new t0 t1 script result (answer words) → IfSome old (λ told. AsksFront told new (command_eyes (request_of words)))
 asks_of_command view None new t0 t1 script result words h = tt
 asks_of_command view (Some told) new t0 t1 script result words h =
     asks_front told new _ _ (front-answer words told.contents h.left) (h.reads told refl).front
+
+-- the same, once the eyes that are held are given back
+pub asks_returned : (old back new : Option Told) (eyes : List Asked) → new ≡ back → IfSome old (λ told. AsksFront told back eyes) → IfSome old (λ told. AsksFront told new eyes)
+asks_returned None back new eyes e h = tt
+asks_returned (Some told) back new eyes e h = subst (λ n. AsksFront told n eyes) (sym e) h

@@ -16,7 +16,8 @@ use Rattle.mr_steps.specs.TextFiles.{matrix_file, text_file}
 use Rattle.mr_top.specs.CheckSteps.{check_answer}
 use Rattle.mr_top.specs.Commands.{answer, command_answer}
 use Rattle.mr_top.specs.EncodeSteps.{encode_answer, encoded_file}
-use Rattle.mr_top.specs.Eyes.{plan_eyes, after, mend_eyes, rebuild_eyes, request_eyes, words_eyes, whole_eyes}
+use Rattle.mr_ready.specs.Duties.{duties_of, eyes_on}
+use Rattle.mr_top.specs.Eyes.{plan_eyes, after, rebuild_eyes, request_eyes, words_eyes, whole_eyes}
 use Rattle.mr_top.specs.RebuildSteps.{head_file, ImageParts, image_file, image_read, parts_as, rebuild_answer, rebuild_by}
 use Rattle.mr_top.specs.Check.{cost_given}
 use Rattle.mr_top.specs.Encode.{layout_given, layout_accepted}
@@ -27,7 +28,7 @@ use Rattle.mr_steps.specs.Requests.{or_usage, rebuild_words, request_of}
 use Rattle.mr_choices.specs.declared.chosen.ChosenPlan.{ChosenPlan}
 use Rattle.mr_steps.specs.declared.fault.Fault.{Fault}
 use Rattle.mr_steps.specs.declared.request.Request.{Request}
-use Rattle.mr_steps.specs.declared.request.Request.TheVariants.{Check, Convert, Encode, Make, Plan, Rebuild}
+use Rattle.mr_steps.specs.declared.request.Request.TheVariants.{Check, Convert, Encode, Make, Plan, Rebuild, Scrub}
 use Rattle.mr_top.proofs.AcceptedParts.{image_of_loss, image_of_matrix, image_of_plan, rebuild_of_head, rebuild_of_loss, rebuild_of_matrix, rebuild_of_plan}
 use Rattle.mr_top.proofs.Accepting.{handed-is, image-is, matrix-is, head-is}
 use Rattle.mr_steps.proofs.Chains.{eyes-given}
@@ -35,8 +36,9 @@ use Rattle.mr_top.proofs.CheckSteps.{cost_next, lost_next, plan_next, valid_next
 use Rattle.mr_top.proofs.EncodeSteps.{code_next, head_next, image_next}
 use Rattle.mr_top.proofs.Eyes.{eyes-encoded_file, eyes-handed_file, eyes-head_file, eyes-image_file, eyes-matrix_file, eyes-plan_answer, eyes-rebuild_by, eyes-text, eyes-body}
 use Rattle.mr_top.proofs.ImageSteps.{asks_next, handed_next, loss_next, matrix_next}
-use Rattle.mr_top.specs.WholeImages.{allowed_answer, image_answer}
+use Rattle.mr_top.specs.WholeImages.{allowed_answer, any_version, image_answer}
 use Rattle.mr_top.specs.Convert.{converted_output, first_version}
+use Rattle.mr_top.specs.Scrub.{scrub_output}
 use Rattle.mr_top.proofs.WholeImages.{body_next, layout_next, spelled_next}
 use Rattle.mr_steps.specs.Sinks.{Output}
 
@@ -160,13 +162,13 @@ rebuild-eyes : (contents : List ℕ → List ℕ) (left : List ℕ) (words : Reb
 unfolding rebuild_answer
 rebuild-eyes contents left words =
     eyes-as (image_read contents words) (asks_next contents left words) (record { name = words.matrix; duty = Text } ∷ image_eyes_of contents words) (image_read contents words).result
-    (λ read. [] ++ on (asks_given read.head left) (λ _. mend_eyes words.image)) (image-eyes contents words) refl (λ read.
-    eyes-as (given (asks_given read.head left)) (rebuild_by contents words read) [] (asks_given read.head left) (λ _. mend_eyes words.image) refl refl (λ asks.
+    (λ read. [] ++ on (asks_given read.head left) (λ _. (eyes_on words.image (duties_of words.workers words.live)))) (image-eyes contents words) refl (λ read.
+    eyes-as (given (asks_given read.head left)) (rebuild_by contents words read) [] (asks_given read.head left) (λ _. (eyes_on words.image (duties_of words.workers words.live))) refl refl (λ asks.
     eyes-rebuild_by contents words read asks))
-    ∙ ap (λ r. (record { name = words.matrix; duty = Text } ∷ image_eyes_of contents words) ++ on r (λ (read : ImageParts). [] ++ on (asks_given read.head left) (λ _. mend_eyes words.image)))
+    ∙ ap (λ r. (record { name = words.matrix; duty = Text } ∷ image_eyes_of contents words) ++ on r (λ (read : ImageParts). [] ++ on (asks_given read.head left) (λ _. (eyes_on words.image (duties_of words.workers words.live)))))
     (image-is contents left words)
     ∙ ap (λ eyes. record { name = words.matrix; duty = Text } ∷ eyes)
-    (step-matrix contents left words (record { name = words.image; duty = Head } ∷ []) (mend_eyes words.image) (plan_eyes words.plan) (matrix_given (contents words.matrix)))
+    (step-matrix contents left words (record { name = words.image; duty = Head } ∷ []) (eyes_on words.image (duties_of words.workers words.live)) (plan_eyes words.plan) (matrix_given (contents words.matrix)))
 
 -- ---- commands that read an image file whole
 
@@ -204,8 +206,9 @@ request-eyes (Plan matrix lost workers budget) contents left = eyes-plan_answer 
 request-eyes (Check matrix lost plan) contents left = check-eyes contents matrix lost plan
 request-eyes (Make code p) contents left = refl
 request-eyes (Encode matrix payload stripes bytes) contents left = encode-eyes contents matrix payload stripes bytes
-request-eyes (Rebuild matrix image lost workers budget plan) contents left = rebuild-eyes contents left (rebuild_words matrix image lost workers budget plan)
+request-eyes (Rebuild matrix image lost workers budget plan live) contents left = rebuild-eyes contents left (rebuild_words matrix image lost workers budget plan live)
 request-eyes (Convert matrix image) contents left = whole-eyes first_version (λ _. converted_output) contents matrix image
+request-eyes (Scrub matrix image) contents left = whole-eyes any_version scrub_output contents matrix image
 
 pub words-eyes : (words : List (List ℕ)) (contents : List ℕ → List ℕ) (left : List ℕ) → (answer words contents left).eyes ≡ words_eyes contents left (request_of words)
 unfolding answer

@@ -1,16 +1,16 @@
 -- A run that answers its words keeps to the headline.
-use Rattle.std.proofs.Common.{arith, ◌≡◌, ◌≢◌, ◌⊎◌, inl, inr, ℕ, ◌+◌, ◌<◌, ◌^◌, ◌==◌, ◌&&◌, Bool, true, false, cond, is_some, nat_le, nat_lt, List, ◌++◌, length, Option, Some, None, IfSome, Result, Ok, Err, refl, sym, ◌∙◌, ap, subst, option_map, take}
+use Rattle.std.proofs.Common.{arith, ◌≡◌, ◌≢◌, ◌⊎◌, inl, inr, ℕ, ◌+◌, ◌<◌, ◌^◌, ◌==◌, ◌&&◌, Bool, true, false, cond, is_some, nat_le, nat_lt, List, [], ◌++◌, All, length, Option, Some, None, IfSome, Result, Ok, Err, refl, sym, ◌∙◌, ap, subst, option_map, take}
 use Rattle.mr_bits.specs.Matrices.{IsMatrixCode}
 use Rattle.mr_bits.specs.declared.errors.What.{What}
 use Rattle.mr_bits.specs.declared.errors.What.TheVariants.{PlanBytes, ScriptBytes}
-use Rattle.mr_choices.specs.Chosen.{chosen_by}
+use Rattle.mr_choices.specs.Chosen.{chosen_by, singles_chosen}
 use Rattle.mr_choices.specs.Handed.{as_given, handed_given, or_plan_line, or_wrong, plan_file_given, sound_given}
 use Rattle.mr_choices.specs.Rotations.{undetermined_at}
 use Rattle.mr_choices.specs.declared.chosen.ChosenPlan.{ChosenPlan}
 use Rattle.mr_choices.specs.declared.errors.UndeterminedAt.{UndeterminedAt as FoundAt}
 use Rattle.mr_choices.proofs.AtLaws.{found-least}
 use Rattle.mr_image.specs.Heads.{image_bytes, read_head}
-use Rattle.mr_image.specs.Images.{ComeFrom, Layout, code_image, every_stripe, image_of}
+use Rattle.mr_image.specs.Images.{ComeFrom, Layout, code_image, every_stripe, image_of, mended, singles_of}
 use Rattle.mr_image.specs.Rotated.{codes_by, rotations}
 use Rattle.mr_image.specs.declared.faults.HeadFault.{HeadFault}
 use Rattle.mr_image.specs.declared.faults.HeadFault.TheVariants.{Bad as IsBadHead, Large as IsLargeImage}
@@ -18,19 +18,22 @@ use Rattle.mr_image.specs.declared.faults.ImageKind.TheVariants.{Head, Planned}
 use Rattle.mr_image.specs.declared.limits.TheConstants.{HEAD_BYTES}
 use Rattle.mr_mend.specs.Replies.{reply_lines}
 use Rattle.mr_mend.specs.Rotations.{AreValidPlans}
-use Rattle.mr_mend.specs.Scripts.{asks_of, script_limit}
+use Rattle.mr_mend.specs.Scripts.{IsInRange, asks_of, script_limit}
 use Rattle.mr_mend.specs.declared.asks.Ask.{Ask}
 use Rattle.mr_mend.specs.declared.asks.ScriptFault.{ScriptFault}
 use Rattle.mr_mend.specs.declared.asks.ScriptFault.TheVariants.{Line as IsBadLine, Large as IsLargeScript, Memory as ScriptMemory}
 use Rattle.mr_mend.proofs.Planned.{gives-rotated}
-use Rattle.mr_mend.proofs.ReplyImages.{reply_lines-same}
 use Rattle.mr_model.specs.Code.{Code, dimensions, undetermined}
 use Rattle.mr_plan.specs.Checks.{first_fault, sound_unless}
-use Rattle.mr_plan.specs.PlanLists.{plan_at}
+use Rattle.mr_plan.specs.PlanLists.{plan_at, recipes_at}
 use Rattle.mr_plan.specs.Plans.{PlanParts, survivors}
 use Rattle.mr_plan.specs.Readings.{read_plan}
 use Rattle.mr_plan.specs.declared.errors.PlanLine.{PlanLine}
 use Rattle.mr_plan.specs.declared.errors.Wrong.{Wrong}
+use Rattle.mr_ready.specs.Lawful.{single_sets}
+use Rattle.mr_ready.specs.Orders.{OrderParts}
+use Rattle.mr_ready.specs.Reports.{line_at, plans_report}
+use Rattle.mr_ready.specs.Writing.{IsOutput}
 use Rattle.mr_words.specs.declared.rebuild_words.RebuildWords.{RebuildWords}
 use Rattle.mr_steps.specs.Faults.{fault_line, fault_status}
 use Rattle.mr_steps.specs.Losses.{lost_given, symbols_of_devices, targets_given}
@@ -39,36 +42,29 @@ use Rattle.mr_steps.specs.Requests.{rebuild_words, request_of}
 use Rattle.mr_steps.specs.Sinks.{Output, HasLine}
 use Rattle.mr_steps.specs.Texts.{matrix_given, text_limit, within_limit}
 use Rattle.mr_steps.specs.declared.fault.Fault.{Fault}
-use Rattle.mr_steps.specs.declared.fault.Fault.TheVariants.{BadImage, TooLarge, Undetermined, UndeterminedAt}
+use Rattle.mr_steps.specs.declared.fault.Fault.TheVariants.{BadImage, TooLarge, UndeterminedAt}
 use Rattle.mr_steps.specs.declared.request.Request.{Request}
-use Rattle.mr_steps.specs.declared.request.Request.TheVariants.{Check, Convert, Encode, Make, Plan, Rebuild}
+use Rattle.mr_steps.specs.declared.request.Request.TheVariants.{Check, Convert, Encode, Make, Plan, Rebuild, Scrub}
+use Rattle.mr_steps.proofs.LossRefused.{IsPast, by-targets, is-refused, loss-refused, next-status, past-ok, past-then, told-as}
 use Rattle.mr_steps.proofs.Results.{followed-followed, ok-same}
 use Rattle.mr_top.specs.Answered.{IsAnswer, IsAnswered, refusal, words_refusal}
 use Rattle.mr_top.specs.Encode.{or_head_fault}
-use Rattle.mr_top.specs.Headline.{HasPlanned, HasRebuilt, Headline, IsImageRefused, IsLeastRotation, IsLeastUndetermined, IsPlanWanted, IsRefused, PlansRight, RebuildsRight}
+use Rattle.mr_top.specs.Headline.{HasPlanned, HasRebuilt, Headline, IsImageRefused, IsLeastRotation, IsLeastUndetermined, IsOrderWanted, IsPlanWanted, PlansRight, RebuildsRight}
 use Rattle.mr_top.specs.Plan.{PlanAccepted, plan_accepted, plan_written, plan_of_parts}
 use Rattle.mr_top.specs.Ran.{Ran, Wrote}
-use Rattle.mr_top.specs.Rebuild.{RebuildAccepted, rebuild_accepted, IsRebuilt, asks_given, head_given, layout_allowed, line_at, mended_image_of, or_script_fault, plans_report, plans_used, rebuild_of_parts, rotations_given, script_within, unless_rotation, unplanned}
+use Rattle.mr_top.specs.Rebuild.{RebuildAccepted, rebuild_accepted, asks_given, head_given, layout_allowed, lines_used, or_script_fault, plans_used, rebuild_of_parts, rotations_given, script_within, unless_rotation, unplanned}
 use Rattle.mr_top.specs.Taken.{IsTaken, TookRight}
 use Rattle.mr_top.proofs.AcceptedParts.{rebuild_of_head, rebuild_of_loss, rebuild_of_plan}
 use Rattle.mr_top.proofs.Answering.{AcceptedBy, accepted-by, accepted-code, accepted-image}
 use Rattle.mr_top.proofs.CodewordsOwn.{asks-inside, given-code, given-valid, targets-loss}
 use Rattle.mr_top.proofs.HeadLimits.{IsImageGiven, head-limits, unplanned-ok}
+use Rattle.mr_top.proofs.LawfulReplies.{lines-mended, lines-own, singles-of_stripe}
 use Rattle.mr_top.proofs.RotationFaults.{first-determined, least-rotation, rotation-found}
 use Rattle.mr_top.proofs.Rotations.{used-valid, used-wanted}
-use Rattle.mr_top.proofs.Wanting.{Determined, Refused, TargetsCases, plan-wanted, targets-cases, targets-determined, targets-refused}
+use Rattle.mr_top.proofs.ScrubRight.{has-scrubbed}
+use Rattle.mr_top.proofs.Wanting.{Determined, Refused, TargetsCases, plan-wanted, targets-cases, targets-determined}
 
 -- ---- steps that do not refuse with the status 7
-
-abbrev IsPast : {X : Type 0} → Result X Fault → Type 0
-IsPast step = status_by (refusal_of step) ≢ 7
-
-past-ok : {X : Type 0} (x : X) → IsPast (Ok x)
-past-ok x = λ e. omega (arith, e)
-
-past-then : {X Y : Type 0} (step : Result X Fault) (next : X → Result Y Fault) → IsPast step → ((x : X) → IsPast (next x)) → IsPast (followed_by step next)
-past-then (Ok x) next first later = later x
-past-then (Err fault) next first later = first
 
 past-unless : {X : Type 0} (b : Bool) (x : X) (fault : Fault) → fault_status fault ≢ 7 → IsPast (cond b (Ok x) (Err fault))
 past-unless true x fault other = past-ok x
@@ -127,49 +123,6 @@ past-asks l left =
     past-then (script_within left) (λ bytes. or_script_fault (asks_of l bytes))
     (past-unless (nat_le (length left) script_limit) left (TooLarge ScriptBytes (script_limit + 1)) (λ e. omega (arith, e)))
     (λ bytes. past-script-fault (asks_of l bytes))
-
--- ---- a loss that is not determined
-
-module _ {X : Type 0} (contents : List ℕ → List ℕ) (matrix lost : List ℕ) (next : Code → ℕ → Result X Fault)
-    (first : Option Fault) (failed : Type 0) (ran : Ran)
-    (first_is : first ≡ refusal_of (followed_by (matrix_given (contents matrix)) (λ m. followed_by (targets_given m lost) (next m))))
-    (status : ran.status ≡ status_by first) (line : (fault : Fault) → first ≡ Some fault → HasLine ran.report_old ran.report_new failed (fault_line fault)) where
-  -- the first refusal, for a matrix and lost symbols that are read
-  by-targets : (m : Code) (r : Result ℕ Fault) → matrix_given (contents matrix) ≡ Ok m → targets_given m lost ≡ r
-      → first ≡ refusal_of (followed_by r (next m))
-  by-targets m r reads loses =
-      first_is
-      ∙ ap (λ s. refusal_of (followed_by s (λ m. followed_by (targets_given m lost) (next m)))) reads
-      ∙ ap (λ s. refusal_of (followed_by s (next m))) loses
-
-  -- a fault that is the first
-  told-as : (fault : Fault) → first ≡ Some fault → fault_status fault ≡ 7
-      → (ran.status ≡ 7) × HasLine ran.report_old ran.report_new failed (fault_line fault)
-  told-as fault is seven = (status ∙ ap status_by is ∙ seven, line fault is)
-
-  -- a loss that is not determined is refused
-  loss-refused : (m : Code) (devices t : ℕ) → matrix_given (contents matrix) ≡ Ok m → lost_given m.devices lost ≡ Ok devices
-      → IsLeastUndetermined m (symbols_of_devices m devices) t
-      → (ran.status ≡ 7) × HasLine ran.report_old ran.report_new failed (fault_line (Undetermined t))
-  loss-refused m devices t reads names h =
-      told-as (Undetermined t) (by-targets m (Err (Undetermined t)) reads (targets-refused m lost devices t names h)) refl
-
-  -- where it is determined, the status is that of what comes next
-  next-status : (m : Code) (devices : ℕ) → matrix_given (contents matrix) ≡ Ok m → targets_given m lost ≡ Ok (symbols_of_devices m devices) → ran.status ≡ 7
-      → status_by (refusal_of (next m (symbols_of_devices m devices))) ≡ 7
-  next-status m devices reads loses seven =
-      sym (ap status_by (by-targets m (Ok (symbols_of_devices m devices)) reads loses)) ∙ sym status ∙ seven
-
-  only-by : ((m : Code) (targets : ℕ) → IsPast (next m targets)) → (m : Code) (devices : ℕ) → matrix_given (contents matrix) ≡ Ok m → ran.status ≡ 7
-      → TargetsCases m lost (symbols_of_devices m devices) → (t : ℕ) × IsLeastUndetermined m (symbols_of_devices m devices) t
-  only-by past m devices reads seven (Determined none loses) = absurd (past m (symbols_of_devices m devices) (next-status m devices reads loses seven))
-  only-by past m devices reads seven (Refused t h) = (t, h)
-
-  pub is-refused : ((m : Code) (targets : ℕ) → IsPast (next m targets)) → IsRefused contents matrix lost failed ran
-  is-refused past = record {
-    refused = loss-refused;
-    only = λ m devices reads names seven. only-by past m devices reads seven (targets-cases m lost devices names);
-  }
 
 -- ---- a rotation that is not determined
 
@@ -261,71 +214,115 @@ wrote-as : (ran : Ran) (output : Output) (out report : List ℕ) → output.out 
 wrote-as ran output out report o r w = subst (λ x. Wrote ran out x) r (subst (λ x. Wrote ran x output.report) o w)
 
 module _ (contents : List ℕ → List ℕ) (left : List ℕ) (words : RebuildWords) (ran : Ran) (output : Output) (r : RebuildAccepted)
-    (by : AcceptedBy contents left words r) (is : IsRebuilt r output) (wrote : Wrote ran output.out output.report)
+    (by : AcceptedBy contents left words r) (is : IsOutput r.order r.bytes output) (wrote : Wrote ran output.out output.report)
     (took : IsTaken contents words r ran.totals_old ran.totals_new) where
+  abbrev l : Layout
+  l = r.order.head
+
+  abbrev plans : List PlanParts
+  plans = r.order.plans
+
   code : IsMatrixCode r.code
   code = accepted-code contents left words r by
 
-  image : IsImageGiven r.code r.lost by.handed r.bytes r.layout
+  image : IsImageGiven r.code r.lost by.handed r.bytes l
   image = accepted-image contents left words r by
 
   below : r.lost < 2 ^ length r.code.rows
   below = (targets-loss r.code words.lost r.lost code by.lost_is).targets_below
 
-  valid : AreValidPlans r.layout r.code r.lost r.plans
+  plans_are : plans ≡ plans_used r.code r.lost words.budget (rotations l) by.handed
+  plans_are = ap (λ (order : OrderParts). order.plans) by.order_is
+
+  lines_are : r.order.lines ≡ lines_used r.code r.lost words.budget (rotations l) by.handed
+  lines_are = ap (λ (order : OrderParts). order.lines) by.order_is
+
+  live_is : r.order.live ≡ words.live
+  live_is = ap (λ (order : OrderParts). order.live) by.order_is
+
+  valid : AreValidPlans l r.code r.lost plans
   valid =
-      subst (λ plans. AreValidPlans r.layout r.code r.lost plans) (sym by.plans_is)
-      (used-valid r.layout r.code r.lost code image.limits.fits below image.determined words.budget by.handed
+      subst (λ plans. AreValidPlans l r.code r.lost plans) (sym plans_are)
+      (used-valid l r.code r.lost code image.limits.fits below image.determined words.budget by.handed
       (given-valid (option_map contents words.plan) r.code r.lost by.handed by.handed_is) image.version)
 
-  wanted : (k : ℕ) → k < rotations r.layout
-      → IsPlanWanted (codes_by r.layout r.code k) r.lost words.budget (option_map contents words.plan) (plan_at r.plans k) (line_at r.lines k)
+  wanted : (k : ℕ) → k < rotations l
+      → IsPlanWanted (codes_by l r.code k) r.lost words.budget (option_map contents words.plan) (plan_at plans k) (line_at r.order.lines k)
   wanted k low =
-      subst (λ plans. IsPlanWanted (codes_by r.layout r.code k) r.lost words.budget (option_map contents words.plan) (plan_at plans k) (line_at r.lines k)) (sym by.plans_is)
-      (subst (λ lines. IsPlanWanted (codes_by r.layout r.code k) r.lost words.budget (option_map contents words.plan)
-      (plan_at (plans_used r.code r.lost words.budget (rotations r.layout) by.handed) k) (line_at lines k)) (sym by.lines_is)
-      (used-wanted r.layout r.code r.lost code image.limits.fits below image.determined words.budget (option_map contents words.plan) by.handed by.handed_is image.version k low))
+      subst (λ plans. IsPlanWanted (codes_by l r.code k) r.lost words.budget (option_map contents words.plan) (plan_at plans k) (line_at r.order.lines k)) (sym plans_are)
+      (subst (λ lines. IsPlanWanted (codes_by l r.code k) r.lost words.budget (option_map contents words.plan)
+      (plan_at (plans_used r.code r.lost words.budget (rotations l) by.handed) k) (line_at lines k)) (sym lines_are)
+      (used-wanted l r.code r.lost code image.limits.fits below image.determined words.budget (option_map contents words.plan) by.handed by.handed_is image.version k low))
 
-  own-at : (columns : ℕ → List (List ℕ))
-      → ComeFrom r.layout (codes_by r.layout r.code) (every_stripe (survivors r.code r.lost)) (image_of r.layout r.bytes) columns
-      → Wrote ran (image_bytes r.layout (code_image r.layout (codes_by r.layout r.code) columns))
-      (plans_report r.layout r.plans r.lines ++ reply_lines (code_image r.layout (codes_by r.layout r.code) columns) r.asks)
-  own-at columns from =
-      let gives = gives-rotated r.layout image.limits.limits in
-      wrote-as ran output _ _
-      (is.image ∙ gives.file r.code r.lost r.plans (image_of r.layout r.bytes) columns code image.limits.fits valid from)
-      (is.report ∙ ap (λ lines. plans_report r.layout r.plans r.lines ++ lines)
-      (reply_lines-same r.layout (mended_image_of r) (code_image r.layout (codes_by r.layout r.code) columns) r.asks
-      (gives.symbols r.code r.lost r.plans (image_of r.layout r.bytes) columns code image.limits.fits valid from)
-      (asks-inside r.layout left r.asks by.asks_is)))
-      wrote
+  -- with `live` the single equations are those of all rotations
+  singles_are : words.live ≡ true → r.order.singles ≡ singles_chosen r.code r.lost words.budget (rotations l)
+  singles_are on =
+      ap (λ (order : OrderParts). order.singles) by.order_is
+      ∙ ap (λ b. cond b (singles_chosen r.code r.lost words.budget (rotations l)) []) on
 
-  has-rebuilt : HasRebuilt r.code r.lost words.budget (option_map contents words.plan) r.layout r.bytes r.asks ran
-  has-rebuilt = record {
-    plans = r.plans;
-    lines = r.lines;
+  single-sets : words.live ≡ true → (s t : ℕ) → s < l.stripes
+      → single_sets r.order.singles s t ≡ singles_of (codes_by l r.code) (every_stripe (survivors r.code r.lost)) words.budget s t
+  single-sets on s t here =
+      ap (λ list. single_sets list s t) (singles_are on) ∙ singles-of_stripe l r.code r.lost words.budget code image.limits.fits s t here
+
+  order-wanted : IsOrderWanted r.code r.lost words.budget (option_map contents words.plan) l r.order.asks words.live r.order
+  order-wanted = record {
+    head = refl;
+    asks_are = refl;
+    live_is = live_is;
     count = valid.count;
     wanted = wanted;
+    singles = single-sets;
+  }
+
+  inside : All (IsInRange l) r.order.asks
+  inside = asks-inside l left r.order.asks by.asks_is
+
+  mended-all : words.live ≡ false → Wrote ran (image_bytes l (mended l (recipes_at plans) (image_of l r.bytes)))
+      (plans_report l plans r.order.lines ++ reply_lines (mended l (recipes_at plans) (image_of l r.bytes)) r.order.asks)
+  mended-all off =
+      wrote-as ran output _ _ is.image
+      (is.report ∙ ap (λ lines. plans_report l plans r.order.lines ++ lines)
+      (lines-mended r.order (image_of l r.bytes) is.replies is.are (live_is ∙ off)))
+      wrote
+
+  own-at : (columns : ℕ → List (List ℕ))
+      → ComeFrom l (codes_by l r.code) (every_stripe (survivors r.code r.lost)) (image_of l r.bytes) columns
+      → Wrote ran (image_bytes l (code_image l (codes_by l r.code) columns))
+      (plans_report l plans r.order.lines ++ reply_lines (code_image l (codes_by l r.code) columns) r.order.asks)
+  own-at columns from =
+      wrote-as ran output _ _
+      (is.image ∙ (gives-rotated l image.limits.limits).file r.code r.lost plans (image_of l r.bytes) columns code image.limits.fits valid from)
+      (is.report ∙ ap (λ lines. plans_report l plans r.order.lines ++ lines)
+      (lines-own r.order (image_of l r.bytes) is.replies is.are r.code r.lost words.budget columns image.limits.limits code image.limits.fits below valid inside
+      (λ on. singles_are (sym live_is ∙ on)) from))
+      wrote
+
+  has-rebuilt : HasRebuilt r.code r.lost words.budget (option_map contents words.plan) l r.bytes r.order.asks words.live ran
+  has-rebuilt = record {
+    order = r.order;
+    wanted = order-wanted;
     once = took.mend;
-    mended_file = wrote-as ran output _ _ is.image is.report wrote;
+    lawful = (output, is, wrote);
+    mended_file = mended-all;
     own = own-at;
   }
 
-  rebuilt-for : (m : Code) (targets : ℕ) (l : Layout) (asks : List Ask)
+  rebuilt-for : (m : Code) (targets : ℕ) (k : Layout) (asks : List Ask)
       → matrix_given (contents words.matrix) ≡ Ok m → targets_given m words.lost ≡ Ok targets
-      → head_given m (contents words.image) ≡ Ok l → asks_given l left ≡ Ok asks
-      → HasRebuilt m targets words.budget (option_map contents words.plan) l (contents words.image) asks ran
-  rebuilt-for m targets l asks reads loses heads asking =
+      → head_given m (contents words.image) ≡ Ok k → asks_given k left ≡ Ok asks
+      → HasRebuilt m targets words.budget (option_map contents words.plan) k (contents words.image) asks words.live ran
+  rebuilt-for m targets k asks reads loses heads asking =
       let me : r.code ≡ m = ok-same (sym by.matrix_is ∙ reads) in
       let te : r.lost ≡ targets = ok-same (sym by.lost_is ∙ ap (λ (x : Code). targets_given x words.lost) me ∙ loses) in
-      let le : r.layout ≡ l = ok-same (sym image.head ∙ ap (head_given r.code) by.bytes_is ∙ ap (λ (x : Code). head_given x (contents words.image)) me ∙ heads) in
-      let ae : r.asks ≡ asks = ok-same (sym by.asks_is ∙ ap (λ (x : Layout). asks_given x left) le ∙ asking) in
+      let le : l ≡ k = ok-same (sym image.head ∙ ap (head_given r.code) by.bytes_is ∙ ap (λ (x : Code). head_given x (contents words.image)) me ∙ heads) in
+      let ae : r.order.asks ≡ asks = ok-same (sym by.asks_is ∙ ap (λ (x : Layout). asks_given x left) le ∙ asking) in
       let handed : Option (List ℕ) = option_map contents words.plan in
-      subst (λ (x : Code). HasRebuilt x targets words.budget handed l (contents words.image) asks ran) me
-      (subst (λ x. HasRebuilt r.code x words.budget handed l (contents words.image) asks ran) te
-      (subst (λ (x : Layout). HasRebuilt r.code r.lost words.budget handed x (contents words.image) asks ran) le
-      (subst (λ x. HasRebuilt r.code r.lost words.budget handed r.layout x asks ran) by.bytes_is
-      (subst (λ x. HasRebuilt r.code r.lost words.budget handed r.layout r.bytes x ran) ae has-rebuilt))))
+      subst (λ (x : Code). HasRebuilt x targets words.budget handed k (contents words.image) asks words.live ran) me
+      (subst (λ x. HasRebuilt r.code x words.budget handed k (contents words.image) asks words.live ran) te
+      (subst (λ (x : Layout). HasRebuilt r.code r.lost words.budget handed x (contents words.image) asks words.live ran) le
+      (subst (λ x. HasRebuilt r.code r.lost words.budget handed l x asks words.live ran) by.bytes_is
+      (subst (λ x. HasRebuilt r.code r.lost words.budget handed l r.bytes x words.live ran) ae has-rebuilt))))
 
 -- ---- the headline
 
@@ -363,24 +360,24 @@ plans-right matrix lost workers budget contents left failed ran f = record {
 }
 
 has-mended : (contents : List ℕ → List ℕ) (left : List ℕ) (words : RebuildWords) (ran : Ran) (output : Output)
-    → Gave (rebuild_accepted contents left words) (λ r. IsRebuilt r output) → Wrote ran output.out output.report
+    → Gave (rebuild_accepted contents left words) (λ r. IsOutput r.order r.bytes output) → Wrote ran output.out output.report
     → Gave (rebuild_accepted contents left words) (λ r. IsTaken contents words r ran.totals_old ran.totals_new)
     → (m : Code) (targets : ℕ) (l : Layout) (asks : List Ask)
     → matrix_given (contents words.matrix) ≡ Ok m → targets_given m words.lost ≡ Ok targets
     → head_given m (contents words.image) ≡ Ok l → asks_given l left ≡ Ok asks
-    → HasRebuilt m targets words.budget (option_map contents words.plan) l (contents words.image) asks ran
+    → HasRebuilt m targets words.budget (option_map contents words.plan) l (contents words.image) asks words.live ran
 has-mended contents left words ran output g wrote took =
     let by = accepted-by contents left words g.value g.is in
     rebuilt-for contents left words ran output g.value by g.holds wrote
     (subst (λ (r : RebuildAccepted). IsTaken contents words r ran.totals_old ran.totals_new) (ok-same (sym took.is ∙ g.is)) took.holds)
 
-rebuilds-right : (matrix image lost : List ℕ) (workers budget : ℕ) (plan : Option (List ℕ)) (contents : List ℕ → List ℕ) (left : List ℕ) (failed : Type 0) (ran : Ran)
-    → IsRunOf (Rebuild matrix image lost workers budget plan) contents left failed ran
-    → RebuildsRight contents left (rebuild_words matrix image lost workers budget plan) failed ran
-rebuilds-right matrix image lost workers budget plan contents left failed ran f =
-    let words : RebuildWords = rebuild_words matrix image lost workers budget plan in
+rebuilds-right : (matrix image lost : List ℕ) (workers budget : ℕ) (plan : Option (List ℕ)) (live : Bool) (contents : List ℕ → List ℕ) (left : List ℕ) (failed : Type 0) (ran : Ran)
+    → IsRunOf (Rebuild matrix image lost workers budget plan live) contents left failed ran
+    → RebuildsRight contents left (rebuild_words matrix image lost workers budget plan live) failed ran
+rebuilds-right matrix image lost workers budget plan live contents left failed ran f =
+    let words : RebuildWords = rebuild_words matrix image lost workers budget plan live in
     record {
-      refused = image-refused contents left words (refusal contents left (Rebuild matrix image lost workers budget plan)) failed ran refl f.status f.line;
+      refused = image-refused contents left words (refusal contents left (Rebuild matrix image lost workers budget plan live)) failed ran refl f.status f.line;
       rebuilt = λ zero. has-mended contents left words ran (f.written zero).0 (f.written zero).1 (f.written zero).2 (f.took zero);
     }
 
@@ -391,8 +388,11 @@ headline-right (Check matrix lost plan) contents left failed ran f = tt
 headline-right (Make code p) contents left failed ran f = tt
 headline-right (Encode matrix payload stripes bytes) contents left failed ran f = tt
 headline-right (Convert matrix image) contents left failed ran f = tt
-headline-right (Rebuild matrix image lost workers budget plan) contents left failed ran f =
-    rebuilds-right matrix image lost workers budget plan contents left failed ran f
+headline-right (Scrub matrix image) contents left failed ran f = record {
+  scrubbed = λ zero. has-scrubbed contents matrix image ran (f.written zero).0 (f.written zero).1 (f.written zero).2;
+}
+headline-right (Rebuild matrix image lost workers budget plan live) contents left failed ran f =
+    rebuilds-right matrix image lost workers budget plan live contents left failed ran f
 
 -- a run of words keeps to the headline of their request
 pub headline-of : (words : List (List ℕ)) (contents : List ℕ → List ℕ) (left : List ℕ) (failed : Type 0) (ran : Ran)

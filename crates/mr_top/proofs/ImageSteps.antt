@@ -1,34 +1,48 @@
 -- The steps of a rebuild up to the script and past it, each with what comes after it.
-use Rattle.std.proofs.Common.{◌≡◌, ℕ, List, Vec, Global, Option, Result, Ok, Err, refl, sym, ap, subst}
+use Rattle.std.proofs.Common.{arith, ◌≡◌, ◌+◌, ◌-◌, ◌≤◌, ℕ, List, ◌++◌, Vec, Global, Option, Some, None, IfSome, Result, Ok, Err, length, option_map, refl, sym, ◌∙◌, ap, subst}
+use Rattle.std.specs.Option.{ForSome}
+use Rattle.std.proofs.Math.Seq.{take-length}
+use Rattle.std.proofs.lemmas.Bool.{false≢true}
 use Rattle.mr_choices.specs.Handed.{handed_file}
 use Rattle.mr_choices.specs.declared.chosen.ChosenPlan.{ChosenPlan}
-use Rattle.mr_choices.specs.declared.chosen.ChosenPlans.{ChosenPlans}
 use Rattle.mr_eq.specs.Problems.{Loss}
+use Rattle.mr_eq.specs.Singles.{SinglesOf}
 use Rattle.mr_image.specs.Images.{Layout}
-use Rattle.mr_io.specs.Telling.{Told}
+use Rattle.mr_image.specs.Heads.{file_bytes}
+use Rattle.mr_image.specs.Rotated.{rotations}
+use Rattle.mr_io.specs.Sights.{Sight}
+use Rattle.mr_io.specs.Telling.{AsksFront, Told, told_asking, told_lending, told_returning}
+use Rattle.mr_io.specs.declared.asked.Asked.{Asked}
+use Rattle.mr_io.specs.declared.errors.FilesError.{FilesError}
+use Rattle.mr_io.specs.declared.errors.FilesError.TheVariants.{Failed, Memory as NoRoom}
 use Rattle.mr_io.specs.declared.totals.Totals.{Totals}
-use Rattle.mr_mend.specs.Mending.{copied_set}
+use Rattle.mr_io.proofs.Growth.{grown-none}
 use Rattle.mr_mend.specs.declared.asks.Ask.{Ask}
-use Rattle.mr_mend.specs.declared.rebuilding.Rebuilt.{Rebuilt}
-use Rattle.mr_plan.specs.PlanLists.{recipes_at}
-use Rattle.mr_plan.specs.Plans.{PlanParts, survivors}
+use Rattle.mr_plan.specs.Plans.{PlanParts}
 use Rattle.mr_model.specs.Code.{Code}
+use Rattle.mr_ready.specs.Carrying.{image_told}
+use Rattle.mr_ready.specs.Duties.{duties_of, eyes_on}
+use Rattle.mr_ready.specs.Orders.{OrderParts, parts_of_order}
+use Rattle.mr_ready.specs.declared.orders.Order.{Order}
+use Rattle.mr_ready.specs.declared.ready.Ready.{Ready as ReadyImage}
 use Rattle.mr_words.specs.declared.rebuild_words.RebuildWords.{RebuildWords}
-use Rattle.mr_steps.specs.Sinks.{Output}
 use Rattle.mr_steps.specs.TextFiles.{matrix_file}
-use Rattle.mr_top.specs.RebuildSteps.{ImageParts, head_file, image_file, image_read, lines_for, mended_image, parts_as, parts_of, plans_for, rebuild_answer, rebuild_by, rebuilt_by, Mended}
+use Rattle.mr_top.specs.RebuildSteps.{ImageParts, head_file, image_file, image_read, order_of, parts_as, parts_of, rebuild_answer, rebuild_by}
+use Rattle.mr_steps.specs.Faults.{IsFilesFault, fault_status}
 use Rattle.mr_steps.specs.Losses.{targets_given}
 use Rattle.mr_steps.specs.Readings.{Reading, given, ◌>>=◌}
-use Rattle.mr_top.specs.Rebuild.{asks_given, layout_allowed}
-use Rattle.mr_top.specs.Replies.{mended_view, output_of}
-use Rattle.mr_steps.specs.Steps.{FollowsWith, Gives, Grows, IsLeft, Reads}
+use Rattle.mr_top.specs.Findings.{Finding, rebuilding}
+use Rattle.mr_top.specs.ImagesRead.{HasFile}
+use Rattle.mr_top.specs.Outcomes.{eyes_held, finding_of, told_after}
+use Rattle.mr_top.specs.Rebuild.{asks_given, layout_allowed, lines_used, plans_used, singles_used}
+use Rattle.mr_steps.specs.Steps.{FollowsWith, Gives, Grows, IsForeseen, IsLeft, IsUnread, Reads}
 use Rattle.mr_steps.specs.declared.choice_line.ChoiceLine.{ChoiceLine}
 use Rattle.mr_steps.specs.declared.fault.Fault.{Fault}
 use Rattle.mr_top.specs.declared.image_read.ImageRead.{ImageRead}
-use Rattle.mr_top.specs.declared.reply.Reply.{Reply}
-use Rattle.mr_top.specs.declared.reply.Reply.TheVariants.{Rebuild}
-use Rattle.mr_steps.proofs.Chains.{reads_err, reads_given, reads_named, reads_then}
-use Rattle.mr_steps.proofs.Growing.{grows_given, grows_named, grows_then}
+use Rattle.mr_top.specs.declared.outcome.Outcome.{Outcome}
+use Rattle.mr_top.specs.declared.outcome.Outcome.TheVariants.{Ready}
+use Rattle.mr_steps.proofs.Chains.{reads_err, reads_given, reads_then}
+use Rattle.mr_steps.proofs.Growing.{grows_given, grows_then, unread-then}
 use Rattle.mr_top.proofs.WithScript.{with-then}
 
 -- ---- up to the script
@@ -180,117 +194,150 @@ module _ (words : RebuildWords) (old between later new : Option Told) (m : Code)
       fourth grew_fourth
       (grows_given new t3 (Ok read) (Ok (parts_as m p.targets handed read.head))))))
 
+-- what is left unread by these steps
+pub unread-image : (t0 t1 t2 t3 : Totals) → IsUnread t0 t1 → IsUnread t1 t2 → IsUnread t2 t3 → IsUnread t0 t3
+unread-image t0 t1 t2 t3 first second third = unread-then t0 t1 t3 first (unread-then t1 t2 t3 second third)
+
 -- ---- past the script
 
-abbrev pub asks_next : (List ℕ → List ℕ) → List ℕ → RebuildWords → ImageParts → Reading Output
+abbrev pub asks_next : (List ℕ → List ℕ) → List ℕ → RebuildWords → ImageParts → Reading Finding
 asks_next contents left words read =
     given (asks_given read.head left) >>= λ asks. rebuild_by contents words read asks
 
-module _ (words : RebuildWords) (old between : Option Told) (t0 t1 : Totals) (script : Option (List ℕ))
+module _ {E : Type 0} (sight : E → Sight) (words : RebuildWords) (old between : Option Told) (t0 t1 : Totals) (script : Option (List ℕ))
     (read : ImageRead)
     (first : Reads parts_of old between (Ok read) (λ contents. image_read contents words))
     (grew : Grows {X = ImageRead} old t0 t1 (Ok read) (λ contents. image_read contents words)) where
   -- the script is refused
   pub asks-err : (fault : Fault)
       → (left : List ℕ) × IsLeft script left × Gives (λ (asks : Vec Ask Global). asks.items) (Err fault) (asks_given read.head left)
-      → FollowsWith output_of old between t0 t1 script (Err fault) (λ contents left. rebuild_answer contents left words)
+      → FollowsWith (finding_of sight) old between t0 t1 script (Err fault) (λ contents left. rebuild_answer contents left words)
   unfolding rebuild_answer
   asks-err fault h =
-      with-then parts_of output_of old between between t0 t1 t1 script read (Err fault)
+      with-then parts_of (finding_of sight) old between between t0 t1 t1 script read (Err fault)
       (λ contents. image_read contents words) (λ contents left read. asks_next contents left words read) first grew
       (record {
         left = h.0;
         is = h.1;
-        reads = reads_err (λ (asks : Vec Ask Global). asks.items) output_of between between fault
+        reads = reads_err (λ (asks : Vec Ask Global). asks.items) (finding_of sight) between between fault
             (λ _. given (asks_given read.head h.0)) (λ contents asks. rebuild_by contents words (parts_of read) asks)
             (reads_given (λ (asks : Vec Ask Global). asks.items) between (Err fault) (asks_given read.head h.0) h.2);
         grows = tt;
       })
 
+  -- the last step takes no bytes
+  ends-grown : (old : Option Told) (t2 : Totals) (asks : List Ask) (result : Result (Outcome E) Fault) → t2 ≡ t1
+      → Grows old t1 t2 result (λ contents. rebuild_by contents words (parts_of read) asks)
+  unfolding rebuild_by
+  ends-grown old t2 asks (Ok outcome) same = λ told there. same ∙ grown-none t1
+  ends-grown old t2 asks (Err fault) same = tt
+
   -- the script asks for reads
-  pub asks-then : (new : Option Told) (t2 : Totals) (asks : Vec Ask Global) (result : Result Reply Fault)
+  pub asks-then : (new : Option Told) (t2 : Totals) (asks : Vec Ask Global) (result : Result (Outcome E) Fault)
       → (left : List ℕ) × IsLeft script left × Gives (λ (asks : Vec Ask Global). asks.items) (Ok asks) (asks_given read.head left)
-      → Reads output_of between new result (λ contents. rebuild_by contents words (parts_of read) asks.items)
-      → Grows between t1 t2 result (λ contents. rebuild_by contents words (parts_of read) asks.items)
-      → FollowsWith output_of old new t0 t2 script result (λ contents left. rebuild_answer contents left words)
+      → Reads (finding_of sight) between new result (λ contents. rebuild_by contents words (parts_of read) asks.items)
+      → t2 ≡ t1
+      → FollowsWith (finding_of sight) old new t0 t2 script result (λ contents left. rebuild_answer contents left words)
   unfolding rebuild_answer
-  asks-then new t2 asks result h reads grows =
+  asks-then new t2 asks result h reads same =
       let given_asks = reads_given (λ (asks : Vec Ask Global). asks.items) between (Ok asks) (asks_given read.head h.0) h.2 in
-      with-then parts_of output_of old between new t0 t1 t2 script read result
+      with-then parts_of (finding_of sight) old between new t0 t1 t2 script read result
       (λ contents. image_read contents words) (λ contents left read. asks_next contents left words read) first grew
       (record {
         left = h.0;
         is = h.1;
-        reads = reads_then (λ (asks : Vec Ask Global). asks.items) output_of between between new asks result
+        reads = reads_then (λ (asks : Vec Ask Global). asks.items) (finding_of sight) between between new asks result
             (λ _. given (asks_given read.head h.0)) (λ contents asks. rebuild_by contents words (parts_of read) asks)
             given_asks reads;
         grows = grows_then (λ (asks : Vec Ask Global). asks.items) between between t1 t1 t2 asks result
             (λ _. given (asks_given read.head h.0)) (λ contents asks. rebuild_by contents words (parts_of read) asks)
-            given_asks (grows_given between t1 (Ok asks) (asks_given read.head h.0)) grows;
+            given_asks (grows_given between t1 (Ok asks) (asks_given read.head h.0)) (ends-grown between t2 asks.items result same);
       })
 
--- ---- the image
+-- ---- a rebuild that is made ready
 
-abbrev pub mend_next : Layout → List PlanParts → List ChoiceLine → List Ask → Mended → Reading Output
-mend_next l plans lines asks mended = given (Ok (rebuilt_by l plans lines asks mended))
+-- what files tell of eyes that were lent and given back
+lent-back : (eyes : List Asked) (n : ℕ) (told : Told) → told_returning n (told_lending eyes n told) ≡ told_asking eyes told
+lent-back eyes n told = λ j. record told { asked = told.asked ++ eyes; lent = all-back told.lent n j }
+  where
+    all-back : (lent n : ℕ) → lent + n - n ≡ lent
+    all-back lent n = omega arith
 
--- what is written by these plans, where the symbols of this set are copied
-abbrev pub mended_with : List ℕ → Layout → List Ask → ℕ → List PlanParts → List ChoiceLine → (List ℕ → List ℕ) → Reading Output
-mended_with image l asks set plans lines contents =
-    mended_image contents image set l plans asks >>= λ mended. mend_next l plans lines asks mended
-
--- the plans and the lines are those of what was read, and what they do not rebuild are the survivors
-pub record IsMendedBy (words : RebuildWords) (read : ImageParts) (chosen : ChosenPlans) : Type 0 where
-  pub plans : chosen.plans ≡ plans_for words read
-  pub lines : chosen.lines.items ≡ lines_for words read
-  pub copied : copied_set read.head (recipes_at chosen.plans 0) ≡ survivors read.matrix read.lost
-
-module _ (words : RebuildWords) (read : ImageParts) (asks : List Ask) (chosen : ChosenPlans) (by : IsMendedBy words read chosen) where
-  abbrev set : ℕ
-  set = copied_set read.head (recipes_at chosen.plans 0)
-
-  -- the chain by these plans is that of what was read
-  named : (P : ((List ℕ → List ℕ) → Reading Output) → Type 0) → P (mended_with words.image read.head asks set chosen.plans chosen.lines.items)
-      → P (λ contents. rebuild_by contents words read asks)
+module _ {E : Type 0} (sight : E → Sight) (words : RebuildWords) (read : ImageParts) (asks : List Ask) (old new : Option Told)
+    (name : List ℕ) (named : name ≡ words.image) where
+  -- it is refused
+  pub ready-err : (error : FilesError) (fault : Fault) → IsFilesFault error fault
+      → ForSome old (λ told. AsksFront told new (eyes_on name (duties_of words.workers words.live)))
+      → Reads {X = Outcome E} (finding_of sight) old new (Err fault) (λ contents. rebuild_by contents words read asks)
   unfolding rebuild_by
-  named P h =
-      subst (λ plans. P (mended_with words.image read.head asks (survivors read.matrix read.lost) plans (lines_for words read))) by.plans
-      (subst (λ lines. P (mended_with words.image read.head asks (survivors read.matrix read.lost) chosen.plans lines)) by.lines
-      (subst (λ s. P (mended_with words.image read.head asks s chosen.plans chosen.lines.items)) by.copied h))
+  ready-err error fault is front = λ told there. record {
+    gives = λ foreseen. unforeseen error is foreseen;
+    front = subst (λ n. AsksFront told new (eyes_on n (duties_of words.workers words.live))) named (front told there);
+    whole = λ ok. absurd (false≢true ok);
+  }
+    where
+      unforeseen : {P : Type 0} (e : FilesError) → IsFilesFault e fault → IsForeseen (fault_status fault) → P
+      unforeseen Failed is foreseen = absurd (foreseen.0 (ap fault_status is))
+      unforeseen NoRoom is foreseen = absurd (foreseen.2 (ap fault_status is))
 
-  -- the image is not mended
-  pub mend-err : (old new : Option Told) (fault : Fault)
-      → Reads mended_view old new (Err fault) (λ contents. mended_image contents words.image set read.head chosen.plans asks)
-      → Reads {X = Reply} output_of old new (Err fault) (λ contents. rebuild_by contents words read asks)
-  mend-err old new fault h =
-      named (λ definition. Reads {X = Reply} output_of old new (Err fault) definition)
-      (reads_err mended_view output_of old new fault
-      (λ contents. mended_image contents words.image set read.head chosen.plans asks)
-      (λ _ mended. mend_next read.head chosen.plans chosen.lines.items asks mended) h)
+  module _ (ready : ReadyImage E) (order : parts_of_order ready.order ≡ order_of words read asks)
+      (told : new ≡ option_map (told_lending (eyes_on name (duties_of words.workers words.live)) (length (duties_of words.workers words.live))) old)
+      (image : image_told sight ready ≡ option_map (λ t. t.contents name) old) where
+    held : eyes_held ready ≡ length (duties_of words.workers words.live)
+    held = ap (λ (parts : OrderParts). length (duties_of parts.workers parts.live)) order
 
--- the image is mended
-module _ (words : RebuildWords) (read : ImageParts) (asks : Vec Ask Global) (chosen : ChosenPlans) (by : IsMendedBy words read chosen)
-    (old new : Option Told) (rebuilt : Rebuilt)
-    (first : Reads mended_view old new (Ok rebuilt)
-    (λ contents. mended_image contents words.image (copied_set read.head (recipes_at chosen.plans 0)) read.head chosen.plans asks.items)) where
-  abbrev reply : Result Reply Fault
-  reply = Ok (Rebuild rebuilt chosen read.head asks)
+    after-asked : (t : Told) → old ≡ Some t → told_after (Ok (Ready ready)) new ≡ Some (told_asking (eyes_on words.image (duties_of words.workers words.live)) t)
+    after-asked t there =
+        ap (λ n. option_map (told_returning n) new) held
+        ∙ ap (option_map (told_returning (length (duties_of words.workers words.live)))) (told ∙ ap (option_map (told_lending (eyes_on name (duties_of words.workers words.live)) (length (duties_of words.workers words.live)))) there)
+        ∙ ap Some (lent-back (eyes_on name (duties_of words.workers words.live)) (length (duties_of words.workers words.live)) t)
+        ∙ ap (λ n. Some (told_asking (eyes_on n (duties_of words.workers words.live)) t)) named
 
-  pub mend-reads : Reads output_of old new reply (λ contents. rebuild_by contents words read asks.items)
-  mend-reads =
-      named words read asks.items chosen by (λ definition. Reads output_of old new reply definition)
-      (reads_then mended_view output_of old new new rebuilt reply
-      (λ contents. mended_image contents words.image (copied_set read.head (recipes_at chosen.plans 0)) read.head chosen.plans asks.items)
-      (λ _ mended. mend_next read.head chosen.plans chosen.lines.items asks.items mended) first
-      (reads_given output_of new reply (Ok (rebuilt_by read.head chosen.plans chosen.lines.items asks.items (mended_view rebuilt))) refl))
+    pub ready-reads : Reads (finding_of sight) old (told_after (Ok (Ready ready)) new) (Ok (Ready ready)) (λ contents. rebuild_by contents words read asks)
+    unfolding rebuild_by
+    ready-reads = λ t there.
+        let asked = after-asked t there in
+        let bytes : image_told sight ready ≡ Some (t.contents words.image) =
+        image ∙ ap (option_map (λ (u : Told). u.contents name)) there ∙ ap (λ n. Some (t.contents n)) named in
+        record {
+          gives = λ j. Ok (rebuilding (sym order j) (sym bytes j));
+          front = record {
+            count = length (eyes_on words.image (duties_of words.workers words.live));
+            within = omega arith;
+            asked = asked ∙ ap (λ eyes. Some (told_asking eyes t)) (sym (take-length (eyes_on words.image (duties_of words.workers words.live))));
+          };
+          whole = λ _. asked;
+        }
 
-  pub mend-grows : (t0 t1 : Totals)
-      → Grows {X = Rebuilt} old t0 t1 (Ok rebuilt)
-      (λ contents. mended_image contents words.image (copied_set read.head (recipes_at chosen.plans 0)) read.head chosen.plans asks.items)
-      → Grows {X = Reply} old t0 t1 reply (λ contents. rebuild_by contents words read asks.items)
-  mend-grows t0 t1 grew =
-      named words read asks.items chosen by (λ definition. Grows {X = Reply} old t0 t1 reply definition)
-      (grows_then mended_view old new t0 t1 t1 rebuilt reply
-      (λ contents. mended_image contents words.image (copied_set read.head (recipes_at chosen.plans 0)) read.head chosen.plans asks.items)
-      (λ _ mended. mend_next read.head chosen.plans chosen.lines.items asks.items mended) first grew
-      (grows_given new t1 reply (Ok (rebuilt_by read.head chosen.plans chosen.lines.items asks.items (mended_view rebuilt)))))
+    -- all its eyes are lent
+    pub ready-lent : IfSome new (λ t. eyes_held ready ≤ t.lent)
+    ready-lent = subst (λ o. IfSome o (λ t. eyes_held ready ≤ t.lent)) (sym told) (go old)
+      where
+        go : (o : Option Told) → IfSome (option_map (told_lending (eyes_on name (duties_of words.workers words.live)) (length (duties_of words.workers words.live))) o) (λ t. eyes_held ready ≤ t.lent)
+        go None = tt
+        go (Some t) = omega (arith, held)
+
+-- the length of a file that is told
+pub fits-told : (told : Option Told) (name image : List ℕ) (l : Layout) → name ≡ image → HasFile told image l
+    → IfSome told (λ t. length (t.contents name) ≡ file_bytes l)
+fits-told None name image l same fits = tt
+fits-told (Some t) name image l same fits = ap (λ n. length (t.contents n)) same ∙ fits t refl
+
+-- what is to be rebuilt, as it is made ready
+pub ready-order : (words : RebuildWords) (read : ImageParts) (asks : Vec Ask Global) (plans : List PlanParts) (lines : Vec ChoiceLine Global) (singles : Vec SinglesOf Global) (order : Order)
+    → order ≡ record { head = read.head; plans = plans; lines = lines; singles = singles; asks = asks; workers = words.workers; live = words.live }
+    → plans ≡ plans_used read.matrix read.lost words.budget (rotations read.head) read.handed
+    → lines.items ≡ lines_used read.matrix read.lost words.budget (rotations read.head) read.handed
+    → singles.items ≡ singles_used read.matrix read.lost words.budget (rotations read.head) words.live
+    → parts_of_order order ≡ order_of words read asks.items
+ready-order words read asks plans lines singles order is by lined single =
+    ap parts_of_order is
+    ∙ (λ j. record {
+      head = read.head;
+      plans = by j;
+      lines = lined j;
+      singles = single j;
+      asks = asks.items;
+      workers = words.workers;
+      live = words.live;
+    })

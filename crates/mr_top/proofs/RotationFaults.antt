@@ -1,6 +1,5 @@
 -- The least rotation that is not determined, as the headline says it.
-use Rattle.std.proofs.Common.{arith, ◌≡◌, ◌+◌, ◌<◌, ◌≤◌, zero, suc, ℕ, Option, Some, None, refl, sym, ◌∙◌, ap, subst, add-one}
-use Rattle.std.specs.Int.{bit_at}
+use Rattle.std.proofs.Common.{arith, ◌≡◌, ◌<◌, ◌≤◌, zero, suc, ℕ, Option, Some, None, sym, ◌∙◌, ap, add-one}
 use Rattle.mr_bits.specs.Matrices.{IsMatrixCode}
 use Rattle.mr_choices.specs.Rotations.{IsLeastAt, at_rotation, undetermined_at}
 use Rattle.mr_choices.specs.declared.errors.UndeterminedAt.{UndeterminedAt}
@@ -8,11 +7,11 @@ use Rattle.mr_choices.proofs.AtLaws.{found-at, none-first, none-more, survivors-
 use Rattle.mr_choices.proofs.ChosenLaws.{rotation-code}
 use Rattle.mr_image.specs.Images.{Layout}
 use Rattle.mr_image.specs.Rotated.{FitsCode, codes_by, rotations}
-use Rattle.mr_model.specs.Code.{Code, has_equation, undetermined}
+use Rattle.mr_model.specs.Code.{Code, undetermined}
 use Rattle.mr_model.specs.Rotations.{rotated}
 use Rattle.mr_model.proofs.RotationLaws.{rotated-zero}
 use Rattle.mr_plan.specs.Plans.{survivors}
-use Rattle.mr_top.specs.Headline.{IsLeastRotation, IsLeastUndetermined}
+use Rattle.mr_top.specs.Headline.{IsLeastRotation}
 use Rattle.mr_top.proofs.Wanting.{undetermined-found}
 
 module _ (l : Layout) (m : Code) (lost : ℕ) (is : IsMatrixCode m) (fits : FitsCode l m) where

@@ -1,7 +1,6 @@
 -- The plans that are used for the rotations of an image are valid, and are those that are wanted.
-use Rattle.std.proofs.Common.{arith, ◌≡◌, ◌⊎◌, inl, inr, ◌<◌, ◌≤◌, ◌^◌, ◌-◌, ℕ, List, [], ◌∷◌, map, length, get_or, Option, Some, None, IfOk, IfSome, Result, Ok, Err, cond, ◌==◌, max, min, refl, sym, ◌∙◌, ap, subst}
+use Rattle.std.proofs.Common.{arith, ◌≡◌, ◌<◌, ◌^◌, ◌-◌, ℕ, List, [], ◌∷◌, length, Option, Some, None, IfOk, IfSome, Result, Ok, Err, refl, sym, ◌∙◌, ap, subst}
 use Rattle.std.proofs.lemmas.Nat.Bits.{bit_at-lt}
-use Rattle.std.specs.List.{range_with_len}
 use Rattle.std.proofs.lemmas.List.FromFn.{get_or-map-range_with_len, length-map-range_with_len}
 use Rattle.mr_choices.specs.Handed.{plan_file_given}
 use Rattle.mr_bits.specs.Matrices.{IsMatrixCode}
@@ -14,18 +13,18 @@ use Rattle.mr_choices.proofs.AtLaws.{all-none, below-rotated, survivors-same}
 use Rattle.mr_choices.proofs.ChosenLaws.{chosen-valid as chosen-all-valid, rotation-code}
 use Rattle.mr_eq.specs.Problems.{IsLoss}
 use Rattle.mr_eq.proofs.Losses.{determined-from}
-use Rattle.mr_image.specs.Images.{Layout, IsLayout, Covers, stripe_symbols}
+use Rattle.mr_image.specs.Images.{Layout}
 use Rattle.mr_image.specs.Rotated.{FitsCode, codes_by, rotations}
 use Rattle.mr_image.proofs.RotatedLaws.{codes-first, rotations-few, rotations-one, rotations-some}
 use Rattle.mr_mend.specs.Mending.{AreMendable, copied_set}
 use Rattle.mr_mend.specs.Rotations.{AreValidPlans}
 use Rattle.mr_mend.proofs.CopySets.{copied-survivors}
-use Rattle.mr_mend.proofs.Planned.{planned-mendable, planned-symbols, valid-one}
+use Rattle.mr_mend.proofs.Planned.{planned-mendable, planned-symbols, survivors_cover, valid-one}
 use Rattle.mr_model.specs.Code.{Code, undetermined}
 use Rattle.mr_model.specs.Plans.{IsValidPlan}
 use Rattle.mr_model.specs.Rotations.{rotated}
-use Rattle.mr_model.proofs.SetLaws.{bit_at_cases, bit_at_minus}
-use Rattle.mr_plan.specs.PlanLists.{no_plan, plan_at, recipes_at, symbols_of}
+use Rattle.mr_model.proofs.SetLaws.{bit_at_minus}
+use Rattle.mr_plan.specs.PlanLists.{no_plan, plan_at, recipes_at}
 use Rattle.mr_plan.specs.Plans.{PlanParts, survivors}
 use Rattle.mr_plan.proofs.PlanListLaws.{plan_at-low, plan_at-one, symbols-at}
 use Rattle.mr_steps.specs.Losses.{loss_of}
@@ -33,15 +32,11 @@ use Rattle.mr_steps.specs.declared.choice_line.ChoiceLine.{ChoiceLine}
 use Rattle.mr_steps.specs.declared.choice_line.ChoiceLine.TheVariants.{Given as GivenLine}
 use Rattle.mr_steps.proofs.LostSymbols.{survivors-apart, survivors-below}
 use Rattle.mr_choices.specs.declared.chosen.ChosenPlans.{ChosenPlans}
-use Rattle.mr_words.specs.declared.rebuild_words.RebuildWords.{RebuildWords}
 use Rattle.mr_top.specs.Headline.{IsPlanWanted}
-use Rattle.mr_top.specs.ImagesRead.{IsImageRead}
-use Rattle.mr_top.specs.RebuildSteps.{lines_for, parts_of, plans_for}
-use Rattle.mr_top.specs.declared.image_read.ImageRead.{ImageRead}
-use Rattle.mr_top.specs.Rebuild.{line_at, lines_used, plans_used}
+use Rattle.mr_ready.specs.Reports.{line_at}
+use Rattle.mr_top.specs.Rebuild.{lines_used, plans_used}
 use Rattle.mr_top.proofs.CodewordsOwn.{Valid, chosen-valid}
-use Rattle.mr_top.proofs.ImageSteps.{IsMendedBy}
-use Rattle.mr_top.proofs.RebuildSteps.{covers, rows-are}
+use Rattle.mr_top.proofs.RebuildSteps.{rows-are}
 use Rattle.mr_top.proofs.Wanting.{given-wanted, none-handed, plan-wanted, some-handed}
 
 -- ---- the plans are valid
@@ -122,7 +117,7 @@ pub plans-copied : (l : Layout) (m : Code) (lost : ℕ) (plans : List PlanParts)
     → (s : ℕ) → copied_set l (recipes_at plans s) ≡ survivors m lost
 plans-copied l m lost plans is fits are s =
     let rows = rows-are m l is fits in
-    copied-survivors l (survivors m lost) lost (recipes_at plans s) (omega (arith, is.shape.few_symbols, rows, is.count)) (covers m l lost rows)
+    copied-survivors l (survivors m lost) lost (recipes_at plans s) (omega (arith, is.shape.few_symbols, rows, is.count)) (survivors_cover l m lost is fits)
     (λ i survives. omega (arith, survives, bit_at_minus (2 ^ length m.rows - 1) lost i, bit_at-lt (2 ^ length m.rows - 1) i, bit_at-lt lost i))
     (symbols-at plans s 0 (planned-symbols l m lost plans is fits are) ∙ (are.valid 0 (omega (arith, rotations-some l))).symbols)
 
@@ -131,16 +126,6 @@ pub plans-mendable : (l : Layout) (m : Code) (lost : ℕ) (plans : List PlanPart
     → lost < 2 ^ length m.rows → AreMendable l plans
 plans-mendable l m lost plans is fits are below =
     planned-mendable l m lost plans is fits are (subst (λ n. lost < 2 ^ n) (rows-are m l is fits) below)
-
--- what is mended by them is what was read asks for
-pub used-mended : (words : RebuildWords) (read : ImageRead) (chosen : ChosenPlans) → IsImageRead read
-    → chosen.plans ≡ plans_for words (parts_of read) → chosen.lines.items ≡ lines_for words (parts_of read)
-    → AreValidPlans read.head read.matrix read.lost chosen.plans → IsMendedBy words (parts_of read) chosen
-used-mended words read chosen sound plans lines valid = record {
-  plans = plans;
-  lines = lines;
-  copied = plans-copied read.head read.matrix read.lost chosen.plans sound.code sound.fits valid 0;
-}
 
 -- the one plan that is handed in, where there was memory for it
 pub one-valid : (l : Layout) (m : Code) (lost : ℕ) (handed : Option ChosenPlan) (chosen : ChosenPlan) (result : Result ChosenPlans NoMemory) → handed ≡ Some chosen

@@ -1,5 +1,6 @@
 -- The bytes that the chains take, as numbers.
-use Rattle.std.proofs.Common.{option_map, arith, ◌≡◌, ◌<◌, ◌≤◌, ℕ, zero, suc, ◌+◌, ◌*◌, Bool, true, false, cond, not, List, [], ◌∷◌, ◌++◌, All, length, take, get_or, filter, Option, Some, None, IfSome, Result, Ok, refl, sym, ◌∙◌, ap}
+use Rattle.std.proofs.Common.{option_map, arith, ◌≡◌, ◌<◌, ◌≤◌, ℕ, zero, suc, ◌+◌, ◌*◌, Bool, true, false, cond, not, List, [], ◌∷◌, ◌++◌, All, length, take, get_or, filter, Option, Some, None, IfSome, Result, Ok, refl, sym, ◌∙◌, ap, subst}
+use Rattle.std.specs.Prelude.{sum_by}
 use Rattle.std.proofs.Math.Seq.{take-length}
 use Rattle.std.proofs.lemmas.List.Elements.{filter_more}
 use Rattle.mr_bits.specs.Matrices.{IsMatrixCode}
@@ -14,33 +15,38 @@ use Rattle.mr_mend.specs.Rotations.{AreValidPlans}
 use Rattle.mr_plan.specs.PlanLists.{recipes_at}
 use Rattle.mr_plan.specs.Plans.{PlanParts}
 use Rattle.mr_io.specs.Counts.{counted}
-use Rattle.mr_io.specs.declared.duty.Duty.TheVariants.{Text, Head, Mend, Live, Copy}
+use Rattle.mr_io.specs.declared.duty.Duty.TheVariants.{Text, Head, Copy}
 use Rattle.mr_io.specs.declared.totals.Totals.{Totals}
 use Rattle.mr_mend.specs.Mending.{copied_set, has_recipe}
 use Rattle.mr_mend.specs.Scripts.{IsInRange}
 use Rattle.mr_mend.specs.Serving.{is_live, live_reads}
 use Rattle.mr_mend.specs.declared.asks.Ask.{Ask}
 use Rattle.mr_model.specs.Code.{Code}
+use Rattle.mr_model.specs.Members.{members}
 use Rattle.mr_model.specs.Plans.{Recipe}
 use Rattle.mr_model.specs.Sets.{has, set_below}
 use Rattle.mr_model.proofs.Finding.{bit_at_set_below}
 use Rattle.mr_model.proofs.SetLaws.{has-false, has-true}
 use Rattle.mr_plan.specs.Plans.{survivors}
+use Rattle.mr_ready.specs.Orders.{OrderParts}
+use Rattle.mr_ready.specs.Reads.{least_reads, most_reads, most_replying_reads, most_symbols_for, replying_reads}
 use Rattle.mr_words.specs.declared.rebuild_words.RebuildWords.{RebuildWords}
-use Rattle.mr_io.specs.Growth.{added, bytes_of, grown, no_bytes}
+use Rattle.mr_io.specs.Growth.{GrewWithin, added, bytes_of, grown, no_bytes}
 use Rattle.mr_io.proofs.Growth.{same_totals}
 use Rattle.mr_steps.specs.Refusals.{Gave, followed_by}
-use Rattle.mr_steps.proofs.Results.{gave-on}
-use Rattle.mr_top.specs.Rebuild.{layout_allowed, rebuild_accepted, asks_given, rebuild_of_parts, head_given}
+use Rattle.mr_steps.proofs.Results.{gave-on, ok-same}
+use Rattle.mr_top.specs.Rebuild.{RebuildAccepted, layout_allowed, rebuild_accepted, asks_given, rebuild_of_parts, head_given}
 use Rattle.mr_steps.specs.Sinks.{Output}
 use Rattle.mr_steps.specs.TextFiles.{matrix_file, text_file}
 use Rattle.mr_steps.specs.Texts.{or_matrix_fault, matrix_given}
 use Rattle.mr_top.specs.CheckSteps.{check_answer}
 use Rattle.mr_top.specs.Commands.{answer, command_answer}
 use Rattle.mr_top.specs.EncodeSteps.{encode_answer, encoded_file}
+use Rattle.mr_top.specs.Findings.{Finding, rebuilding, writing}
+use Rattle.mr_top.specs.Make.{make_given}
 use Rattle.mr_top.specs.Plan.{plan_given}
 use Rattle.mr_top.specs.PlanSteps.{plan_answer}
-use Rattle.mr_top.specs.RebuildSteps.{ImageParts, copied_image, head_file, image_file, image_read, mended_image, plans_for, parts_as, rebuild_answer, rebuild_by, replied_image, copying_reads, mending_reads}
+use Rattle.mr_top.specs.RebuildSteps.{ImageParts, head_file, image_file, image_read, order_of, parts_as, rebuild_answer, rebuild_by}
 use Rattle.mr_top.specs.Check.{cost_given}
 use Rattle.mr_top.specs.Encode.{layout_given}
 use Rattle.mr_steps.specs.Losses.{targets_given}
@@ -49,17 +55,19 @@ use Rattle.mr_steps.specs.Requests.{or_usage, rebuild_words, request_of}
 use Rattle.mr_top.specs.Taken.{IsTaken, TookRight, plan_bytes, survivor_asks, whole_taken}
 use Rattle.mr_steps.specs.declared.fault.Fault.{Fault}
 use Rattle.mr_steps.specs.declared.request.Request.{Request}
-use Rattle.mr_steps.specs.declared.request.Request.TheVariants.{Check, Convert, Encode, Make, Plan, Rebuild}
+use Rattle.mr_steps.specs.declared.request.Request.TheVariants.{Check, Convert, Encode, Make, Plan, Rebuild, Scrub}
 use Rattle.mr_top.proofs.AcceptedParts.{rebuild_of_head, rebuild_of_loss, rebuild_of_plan}
 use Rattle.mr_top.proofs.Accepting.{handed-is, image_file-is, matrix-is, head-is}
 use Rattle.mr_top.proofs.CheckSteps.{cost_next, lost_next, plan_next, valid_next}
 use Rattle.mr_top.proofs.CodewordsOwn.{HasRead, asks-inside, given-code, given-valid, has-read, targets-loss}
 use Rattle.mr_top.proofs.EncodeSteps.{code_next, head_next, image_next}
+use Rattle.mr_top.proofs.Findings.{IsWriting, writing-of}
 use Rattle.mr_top.proofs.HeadLimits.{IsImageGiven, image-given}
 use Rattle.mr_top.proofs.ImageSteps.{asks_next, handed_next, loss_next, matrix_next}
 use Rattle.mr_top.proofs.Rotations.{plans-copied, used-valid}
-use Rattle.mr_top.specs.WholeImages.{allowed_answer, body_answer, image_answer}
+use Rattle.mr_top.specs.WholeImages.{allowed_answer, any_version, body_answer, image_answer}
 use Rattle.mr_top.specs.Convert.{converted_output, first_accepted, first_version, convert_answer}
+use Rattle.mr_top.specs.Scrub.{either_accepted, scrub_answer, scrub_output}
 use Rattle.mr_top.proofs.WholeImages.{body_next, layout_next, spelled_next}
 
 -- ---- chains that give a value
@@ -168,15 +176,9 @@ takes-image contents words =
     takes-then (handed_file contents words.plan m targets) (handed_next contents words m targets) (handed_taken contents words.plan) (added head_taken no_bytes) (takes-handed contents words.plan m targets) (λ handed.
     takes-given (image_file contents words.image m targets handed) (λ l. Ok (parts_as m targets handed l)) head_taken (takes-head contents words.image m targets handed))))
 
-abbrev mend_taken : RebuildWords → ImageParts → List Ask → Totals
-mend_taken words read asks =
-    added (added (bytes_of Mend (mending_reads read.head (plans_for words read)))
-    (added (bytes_of Live (live_reads read.head (recipes_at (plans_for words read)) asks))
-    (added (bytes_of Copy (copying_reads read.head (survivors read.matrix read.lost))) no_bytes))) no_bytes
-
-takes-mend : (contents : List ℕ → List ℕ) (words : RebuildWords) (read : ImageParts) (asks : List Ask) → (rebuild_by contents words read asks).taken ≡ mend_taken words read asks
-unfolding rebuild_by mended_image replied_image copied_image
-takes-mend contents words read asks = refl
+takes-none : (contents : List ℕ → List ℕ) (words : RebuildWords) (read : ImageParts) (asks : List Ask) → (rebuild_by contents words read asks).taken ≡ no_bytes
+unfolding rebuild_by
+takes-none contents words read asks = refl
 
 -- ---- the reads of survivors
 
@@ -222,22 +224,36 @@ handed-bytes : (contents : List ℕ → List ℕ) (plan : Option (List ℕ)) →
 handed-bytes contents None = refl
 handed-bytes contents (Some plan) = same_totals _ _ _ _ _ _ _ _ _ _ (omega arith) (omega arith) (omega arith) (omega arith) (omega arith)
 
--- what a rebuild takes of what it read
-abbrev numbers : (List ℕ → List ℕ) → RebuildWords → ImageParts → List Ask → Totals
-numbers contents words read asks = record {
+-- what a rebuild takes before it is carried
+abbrev numbers : (List ℕ → List ℕ) → RebuildWords → Totals
+numbers contents words = record no_bytes {
   text = length (contents words.matrix) + plan_bytes contents words.plan;
   head = HEAD_BYTES;
-  mend = mending_reads read.head (plans_for words read);
-  live = live_reads read.head (recipes_at (plans_for words read)) asks;
-  copy = copying_reads read.head (survivors read.matrix read.lost);
 }
 
-numbers-are : (contents : List ℕ → List ℕ) (words : RebuildWords) (read : ImageParts) (asks : List Ask)
-    → added (read_taken contents words) (added no_bytes (mend_taken words read asks)) ≡ numbers contents words read asks
-numbers-are contents words read asks =
-    ap (λ t. added (added (matrix_taken contents words.matrix) (added no_bytes (added t (added head_taken no_bytes)))) (added no_bytes (mend_taken words read asks)))
+numbers-are : (contents : List ℕ → List ℕ) (words : RebuildWords) → added (read_taken contents words) (added no_bytes no_bytes) ≡ numbers contents words
+numbers-are contents words =
+    ap (λ t. added (added (matrix_taken contents words.matrix) (added no_bytes (added t (added head_taken no_bytes)))) (added no_bytes no_bytes))
     (handed-bytes contents words.plan)
     ∙ same_totals _ _ _ _ _ _ _ _ _ _ (omega arith) (omega arith) (omega arith) (omega arith) (omega arith)
+
+-- totals after two steps, of which the one takes nothing
+first-exact : (t u v a : ℕ) → u ≡ counted t a → counted u 0 ≤ v → v ≤ counted u 0 → v ≡ counted t a
+first-exact t u v a e least most = omega (arith, e, least, most)
+
+then-exact : (t u v b : ℕ) → u ≡ counted t 0 → counted u b ≤ v → v ≤ counted u b → v ≡ counted t b
+then-exact t u v b e least most = omega (arith, e, least, most)
+
+then-least : (t u v b : ℕ) → u ≡ counted t 0 → counted u b ≤ v → counted t b ≤ v
+then-least t u v b e least = omega (arith, e, least)
+
+then-most : (t u v b : ℕ) → u ≡ counted t 0 → v ≤ counted u b → v ≤ counted t b
+then-most t u v b e most = omega (arith, e, most)
+
+-- what is taken of what was found, once it is written or carried
+abbrev pub TookOf : Finding → Totals → Totals → Type 0
+TookOf (writing output) old new = new ≡ old
+TookOf (rebuilding order image) old new = GrewWithin old new (least_reads order) (most_reads order)
 
 module _ (contents : List ℕ → List ℕ) (left : List ℕ) (words : RebuildWords) (read : ImageParts) (asks : List Ask)
     (reads : (image_read contents words).result ≡ Ok read) (has_read : HasRead contents words read) (asking : asks_given read.head left ≡ Ok asks) where
@@ -249,14 +265,17 @@ module _ (contents : List ℕ → List ℕ) (left : List ℕ) (words : RebuildWo
       ∙ ap (λ s. followed_by s (rebuild_of_head contents left words read.matrix read.lost read.handed)) (sym (image_file-is contents words.image read.matrix read.lost read.handed) ∙ has_read.image_is)
       ∙ ap (λ s. followed_by s (λ asks. Ok (rebuild_of_parts contents words read.matrix read.lost read.handed read.head asks))) asking
 
-  taken : (rebuild_answer contents left words).taken ≡ numbers contents words read asks
+  taken : (rebuild_answer contents left words).taken ≡ numbers contents words
   unfolding rebuild_answer
   taken =
       taken-next (image_read contents words) (asks_next contents left words) read reads
       ∙ ap (λ t. added t (asks_next contents left words read).taken) (takes-image contents words read reads)
       ∙ ap (added (read_taken contents words)) (taken-next (given (asks_given read.head left)) (rebuild_by contents words read) asks asking
-      ∙ ap (added no_bytes) (takes-mend contents words read asks))
-      ∙ numbers-are contents words read asks
+      ∙ ap (added no_bytes) (takes-none contents words read asks))
+      ∙ numbers-are contents words
+
+  abbrev order : OrderParts
+  order = order_of words read asks
 
   code : IsMatrixCode read.matrix
   code = given-code (contents words.matrix) read.matrix (sym (matrix-is contents words.matrix) ∙ has_read.matrix_is)
@@ -265,41 +284,62 @@ module _ (contents : List ℕ → List ℕ) (left : List ℕ) (words : RebuildWo
   image = image-given read.matrix read.lost read.handed (contents words.image) read.head code
       (sym (image_file-is contents words.image read.matrix read.lost read.handed) ∙ has_read.image_is)
 
-  valid : AreValidPlans read.head read.matrix read.lost (plans_for words read)
+  valid : AreValidPlans read.head read.matrix read.lost order.plans
   valid = used-valid read.head read.matrix read.lost code image.limits.fits (targets-loss read.matrix words.lost read.lost code has_read.loss_is).targets_below
       image.determined words.budget read.handed (given-valid (option_map contents words.plan) read.matrix read.lost read.handed
       (sym (handed-is contents words.plan read.matrix read.lost) ∙ has_read.handed_is)) image.version
 
-  live-are : live_reads read.head (recipes_at (plans_for words read)) asks
-      ≡ length (survivor_asks (rebuild_of_parts contents words read.matrix read.lost read.handed read.head asks)) * read.head.symbol_bytes
-  live-are =
-      live-survives read.head (plans_for words read) (survivors read.matrix read.lost) asks
-      (plans-copied read.head read.matrix read.lost (plans_for words read) code image.limits.fits valid) (asks-inside read.head left asks asking)
+  abbrev accepted : RebuildAccepted
+  accepted = rebuild_of_parts contents words read.matrix read.lost read.handed read.head asks
 
-  is-taken : (old new : Totals) → new ≡ grown old (rebuild_answer contents left words).taken
-      → IsTaken contents words (rebuild_of_parts contents words read.matrix read.lost read.handed read.head asks) old new
-  is-taken old new h =
-      let all : new ≡ grown old (numbers contents words read asks) = h ∙ ap (grown old) taken in
+  copied : (s : ℕ) → copied_set read.head (recipes_at order.plans s) ≡ survivors read.matrix read.lost
+  copied = plans-copied read.head read.matrix read.lost order.plans code image.limits.fits valid
+
+  live-are : replying_reads order ≡ length (survivor_asks accepted) * read.head.symbol_bytes
+  live-are = live-survives read.head order.plans (survivors read.matrix read.lost) asks copied (asks-inside read.head left asks asking)
+
+  -- without `live` there is no more to read
+  most-off : order.live ≡ false → most_replying_reads order ≡ replying_reads order
+  most-off off = ap (λ b. cond b (sum_by (most_symbols_for order) asks * read.head.symbol_bytes) (replying_reads order)) off
+
+  is-taken : (old mid new : Totals) → mid ≡ grown old (rebuild_answer contents left words).taken → GrewWithin mid new (least_reads order) (most_reads order)
+      → IsTaken contents words accepted old new
+  is-taken old mid new h within =
+      let all : mid ≡ grown old (numbers contents words) = h ∙ ap (grown old) taken in
+      let none_live : mid.live ≡ counted old.live 0 = ap (λ (t : Totals). t.live) all in
+      let least : counted old.live (replying_reads order) ≤ new.live = then-least _ _ _ _ none_live within.live_least in
       record {
-        text = ap (λ (t : Totals). t.text) all;
-        head = ap (λ (t : Totals). t.head) all;
-        mend = ap (λ (t : Totals). t.mend) all;
-        live = ap (λ (t : Totals). t.live) all ∙ ap (counted old.live) live-are;
-        copy = ap (λ (t : Totals). t.copy) all;
+        text = first-exact _ _ _ _ (ap (λ (t : Totals). t.text) all) within.text_least within.text_most;
+        head = first-exact _ _ _ _ (ap (λ (t : Totals). t.head) all) within.head_least within.head_most;
+        mend = then-exact _ _ _ _ (ap (λ (t : Totals). t.mend) all) within.mend_least within.mend_most;
+        live = λ off.
+            then-exact _ _ _ _ none_live within.live_least (subst (λ n. new.live ≤ counted mid.live n) (most-off off) within.live_most)
+            ∙ ap (counted old.live) live-are;
+        live_least = subst (λ n. counted old.live n ≤ new.live) live-are least;
+        live_most = then-most _ _ _ _ none_live within.live_most;
+        copy = then-exact _ _ _ _ (ap (λ (t : Totals). t.copy) all) within.copy_least within.copy_most
+            ∙ ap (λ set. counted old.copy (read.head.stripes * (length (members set) * read.head.symbol_bytes))) (copied 0);
       }
 
-rebuild-took : (contents : List ℕ → List ℕ) (left : List ℕ) (words : RebuildWords) (output : Output) (old new : Totals)
-    → (rebuild_answer contents left words).result ≡ Ok output → new ≡ grown old (rebuild_answer contents left words).taken
+found-is : (contents : List ℕ → List ℕ) (words : RebuildWords) (read : ImageParts) (asks : List Ask) (found : Finding)
+    → (rebuild_by contents words read asks).result ≡ Ok found → found ≡ rebuilding (order_of words read asks) (Some (contents words.image))
+unfolding rebuild_by
+found-is contents words read asks found e = sym (ok-same e)
+
+rebuild-took : (contents : List ℕ → List ℕ) (left : List ℕ) (words : RebuildWords) (found : Finding) (old mid new : Totals)
+    → (rebuild_answer contents left words).result ≡ Ok found → mid ≡ grown old (rebuild_answer contents left words).taken → TookOf found mid new
     → Gave (rebuild_accepted contents left words) (λ r. IsTaken contents words r old new)
 unfolding rebuild_answer
-rebuild-took contents left words output old new e h =
-    let g = gave-on (image_read contents words) (asks_next contents left words) output e in
-    let k = gave-on (given (asks_given g.value.head left)) (rebuild_by contents words g.value) output g.holds in
+rebuild-took contents left words found old mid new e h took =
+    let g = gave-on (image_read contents words) (asks_next contents left words) found e in
+    let k = gave-on (given (asks_given g.value.head left)) (rebuild_by contents words g.value) found g.holds in
     let hr : HasRead contents words g.value = has-read contents words g.value g.is in
+    let within : GrewWithin mid new (least_reads (order_of words g.value k.value)) (most_reads (order_of words g.value k.value)) =
+    subst (λ f. TookOf f mid new) (found-is contents words g.value k.value found k.holds) took in
     record {
       value = rebuild_of_parts contents words g.value.matrix g.value.lost g.value.handed g.value.head k.value;
       is = is-accepted contents left words g.value k.value g.is hr k.is;
-      holds = is-taken contents left words g.value k.value g.is hr k.is old new h;
+      holds = is-taken contents left words g.value k.value g.is hr k.is old mid new h within;
     }
 
 -- ---- commands that read an image file whole
@@ -346,31 +386,50 @@ grew-gave : {X : Type 0} (r : Result X Fault) (f : X → Totals) (taken old new 
     → Gave r (λ x. new ≡ grown old (f x))
 grew-gave r f taken old new h g = record { value = g.value; is = g.is; holds = h ∙ ap (grown old) g.holds }
 
-pub took-right : (request : Request) (contents : List ℕ → List ℕ) (left : List ℕ) (output : Output) (old new : Totals)
-    → (command_answer contents left request).result ≡ Ok output → new ≡ grown old (command_answer contents left request).taken
+-- steps whose result is written take no more
+took-written : (reading : Reading Output) (found : Finding) (old mid new : Totals) (t : Totals) → (w : IsWriting reading found) → reading.taken ≡ t
+    → mid ≡ grown old reading.taken → TookOf found mid new → new ≡ grown old t
+took-written reading found old mid new t w is h took = subst (λ f. TookOf f mid new) w.is took ∙ h ∙ ap (grown old) is
+
+pub took-right : (request : Request) (contents : List ℕ → List ℕ) (left : List ℕ) (found : Finding) (old mid new : Totals)
+    → (command_answer contents left request).result ≡ Ok found → mid ≡ grown old (command_answer contents left request).taken → TookOf found mid new
     → TookRight request contents left old new
-took-right (Plan matrix lost workers budget) contents left output old new e h = h ∙ ap (grown old) (plan-taken contents matrix lost budget output e)
-took-right (Check matrix lost plan) contents left output old new e h = h ∙ ap (grown old) (check-taken contents matrix lost plan output e)
-took-right (Make code p) contents left output old new e h = h
-took-right (Encode matrix payload stripes bytes) contents left output old new e h = h ∙ ap (grown old) (encode-taken contents matrix payload stripes bytes output e)
-took-right (Rebuild matrix image lost workers budget plan) contents left output old new e h =
-    rebuild-took contents left (rebuild_words matrix image lost workers budget plan) output old new e h
-took-right (Convert matrix image) contents left output old new e h =
-    grew-gave (first_accepted contents matrix image) (whole_taken (length (contents matrix))) (convert_answer contents matrix image).taken old new h
-    (whole-took first_version (λ _. converted_output) contents matrix image output e)
+took-right (Plan matrix lost workers budget) contents left found old mid new e h took =
+    let w = writing-of (plan_answer contents matrix lost budget) found e in
+    took-written (plan_answer contents matrix lost budget) found old mid new _ w (plan-taken contents matrix lost budget w.output w.result_is) h took
+took-right (Check matrix lost plan) contents left found old mid new e h took =
+    let w = writing-of (check_answer contents matrix lost plan) found e in
+    took-written (check_answer contents matrix lost plan) found old mid new _ w (check-taken contents matrix lost plan w.output w.result_is) h took
+took-right (Make code p) contents left found old mid new e h took =
+    took-written (given (make_given code p)) found old mid new no_bytes (writing-of (given (make_given code p)) found e) refl h took
+took-right (Encode matrix payload stripes bytes) contents left found old mid new e h took =
+    let w = writing-of (encode_answer contents matrix payload stripes bytes) found e in
+    took-written (encode_answer contents matrix payload stripes bytes) found old mid new _ w (encode-taken contents matrix payload stripes bytes w.output w.result_is) h took
+took-right (Rebuild matrix image lost workers budget plan live) contents left found old mid new e h took =
+    rebuild-took contents left (rebuild_words matrix image lost workers budget plan live) found old mid new e h took
+took-right (Convert matrix image) contents left found old mid new e h took =
+    let w = writing-of (convert_answer contents matrix image) found e in
+    grew-gave (first_accepted contents matrix image) (whole_taken (length (contents matrix))) (convert_answer contents matrix image).taken old new
+    (took-written (convert_answer contents matrix image) found old mid new _ w refl h took)
+    (whole-took first_version (λ _. converted_output) contents matrix image w.output w.result_is)
+took-right (Scrub matrix image) contents left found old mid new e h took =
+    let w = writing-of (scrub_answer contents matrix image) found e in
+    grew-gave (either_accepted contents matrix image) (whole_taken (length (contents matrix))) (scrub_answer contents matrix image).taken old new
+    (took-written (scrub_answer contents matrix image) found old mid new _ w refl h took)
+    (whole-took any_version scrub_output contents matrix image w.output w.result_is)
 
 -- the totals of a run that answered its words
-pub words-took : (words : List (List ℕ)) (contents : List ℕ → List ℕ) (left : List ℕ) (output : Output) (old new : Totals)
-    → (answer words contents left).result ≡ Ok output
-    → new ≡ grown old (answer words contents left).taken → IfSome (request_of words) (λ request. TookRight request contents left old new)
+pub words-took : (words : List (List ℕ)) (contents : List ℕ → List ℕ) (left : List ℕ) (found : Finding) (old mid new : Totals)
+    → (answer words contents left).result ≡ Ok found
+    → mid ≡ grown old (answer words contents left).taken → TookOf found mid new → IfSome (request_of words) (λ request. TookRight request contents left old new)
 unfolding answer
-words-took words contents left output old new = go (request_of words)
+words-took words contents left found old mid new e h took = go (request_of words) e h
   where
     go : (o : Option Request)
-        → (and_then [] no_bytes (or_usage o) (command_answer contents left)).result ≡ Ok output
-        → new ≡ grown old (and_then [] no_bytes (or_usage o) (command_answer contents left)).taken
+        → (and_then [] no_bytes (or_usage o) (command_answer contents left)).result ≡ Ok found
+        → mid ≡ grown old (and_then [] no_bytes (or_usage o) (command_answer contents left)).taken
         → IfSome o (λ request. TookRight request contents left old new)
     go None e h = tt
     go (Some request) e h =
-        took-right request contents left output old new e
-        (h ∙ ap (grown old) (same_totals _ _ _ _ _ _ _ _ _ _ (omega arith) (omega arith) (omega arith) (omega arith) (omega arith)))
+        took-right request contents left found old mid new e
+        (h ∙ ap (grown old) (same_totals _ _ _ _ _ _ _ _ _ _ (omega arith) (omega arith) (omega arith) (omega arith) (omega arith))) took

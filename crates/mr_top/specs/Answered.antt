@@ -1,18 +1,20 @@
 -- The answer of a request, as a relation between what it accepts and what is written.
 use Rattle.std.specs.Prelude.{Bool, List, None, Ok, Option, Some, false, is_ok, true, ℕ, ◌≡◌}
+use Rattle.mr_ready.specs.Writing.{IsOutput}
 use Rattle.mr_steps.specs.Refusals.{Gave, refusal_of}
 use Rattle.mr_steps.specs.Requests.{rebuild_words, request_of}
 use Rattle.mr_steps.specs.Sinks.{Output}
 use Rattle.mr_steps.specs.declared.fault.Fault.{Fault}
 use Rattle.mr_steps.specs.declared.fault.Fault.TheVariants.{Usage}
 use Rattle.mr_steps.specs.declared.request.Request.{Request}
-use Rattle.mr_steps.specs.declared.request.Request.TheVariants.{Check, Convert, Encode, Make, Plan, Rebuild}
+use Rattle.mr_steps.specs.declared.request.Request.TheVariants.{Check, Convert, Encode, Make, Plan, Rebuild, Scrub}
 use Rattle.mr_top.specs.Check.{check_accepted, check_written}
 use Rattle.mr_top.specs.Convert.{convert_accepted}
 use Rattle.mr_top.specs.Encode.{encode_accepted, image_written}
 use Rattle.mr_top.specs.Make.{make_given}
 use Rattle.mr_top.specs.Plan.{plan_accepted, plan_written}
-use Rattle.mr_top.specs.Rebuild.{IsRebuilt, image_accepted, rebuild_accepted}
+use Rattle.mr_top.specs.Rebuild.{image_accepted, rebuild_accepted}
+use Rattle.mr_top.specs.Scrub.{scrub_accepted}
 
 -- The request is accepted over files with these contents and a script with these bytes left, and
 -- this is its answer.
@@ -25,11 +27,13 @@ IsAnswered (Make code p) contents left output = make_given code p ≡ Ok output
 IsAnswered (Encode matrix payload stripes bytes) contents left output =
     Gave (encode_accepted contents matrix payload stripes bytes)
     (λ image. output ≡ image_written image)
-IsAnswered (Rebuild matrix image lost workers budget plan) contents left output =
-    Gave (rebuild_accepted contents left (rebuild_words matrix image lost workers budget plan))
-    (λ r. IsRebuilt r output)
+IsAnswered (Rebuild matrix image lost workers budget plan live) contents left output =
+    Gave (rebuild_accepted contents left (rebuild_words matrix image lost workers budget plan live))
+    (λ r. IsOutput r.order r.bytes output)
 IsAnswered (Convert matrix image) contents left output =
     Gave (convert_accepted contents matrix image) (λ file. output ≡ image_written file)
+IsAnswered (Scrub matrix image) contents left output =
+    scrub_accepted contents matrix image ≡ Ok output
 
 -- the first refusal of a request
 abbrev pub refusal : (List ℕ → List ℕ) → List ℕ → Request → Option Fault
@@ -40,10 +44,11 @@ refusal contents left (Check matrix lost plan) =
 refusal contents left (Make code p) = refusal_of (make_given code p)
 refusal contents left (Encode matrix payload stripes bytes) =
     refusal_of (encode_accepted contents matrix payload stripes bytes)
-refusal contents left (Rebuild matrix image lost workers budget plan) =
+refusal contents left (Rebuild matrix image lost workers budget plan live) =
     refusal_of (rebuild_accepted contents left
-    (rebuild_words matrix image lost workers budget plan))
+    (rebuild_words matrix image lost workers budget plan live))
 refusal contents left (Convert matrix image) = refusal_of (convert_accepted contents matrix image)
+refusal contents left (Scrub matrix image) = refusal_of (scrub_accepted contents matrix image)
 
 -- the first refusal of the words' request; words that are none are refused as such
 abbrev pub words_refusal : (List ℕ → List ℕ) → List ℕ → Option Request → Option Fault
@@ -56,9 +61,10 @@ reaches_script contents (Plan matrix lost workers budget) = false
 reaches_script contents (Check matrix lost plan) = false
 reaches_script contents (Make code p) = false
 reaches_script contents (Encode matrix payload stripes bytes) = false
-reaches_script contents (Rebuild matrix image lost workers budget plan) =
-    is_ok (image_accepted contents (rebuild_words matrix image lost workers budget plan))
+reaches_script contents (Rebuild matrix image lost workers budget plan live) =
+    is_ok (image_accepted contents (rebuild_words matrix image lost workers budget plan live))
 reaches_script contents (Convert matrix image) = false
+reaches_script contents (Scrub matrix image) = false
 
 -- the same for the words' request
 abbrev pub words_reach_script : (List ℕ → List ℕ) → Option Request → Bool
@@ -72,8 +78,9 @@ asks_script (Some (Plan matrix lost workers budget)) = false
 asks_script (Some (Check matrix lost plan)) = false
 asks_script (Some (Make code p)) = false
 asks_script (Some (Encode matrix payload stripes bytes)) = false
-asks_script (Some (Rebuild matrix image lost workers budget plan)) = true
+asks_script (Some (Rebuild matrix image lost workers budget plan live)) = true
 asks_script (Some (Convert matrix image)) = false
+asks_script (Some (Scrub matrix image)) = false
 
 -- This is the answer to the words.
 pub record IsAnswer (words : List (List ℕ)) (contents : List ℕ → List ℕ) (left : List ℕ)

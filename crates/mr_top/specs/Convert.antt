@@ -1,5 +1,5 @@
 -- The command `convert`: what it accepts, and what it writes.
-use Rattle.std.specs.Prelude.{Err, List, Ok, Result, [], if◌then◌else◌, ℕ, ◌==◌}
+use Rattle.std.specs.Prelude.{Err, List, Ok, Result, if◌then◌else◌, ℕ, ◌==◌}
 use Rattle.mr_image.specs.Images.{Layout}
 use Rattle.mr_image.specs.Rotated.{converted_file}
 use Rattle.mr_image.specs.declared.faults.ImageKind.TheVariants.{Version}

@@ -1,17 +1,19 @@
 -- The eyes that a request asks for, each where nothing before it was refused.
 use Rattle.std.specs.Prelude.{Err, List, None, Ok, Option, Result, Some, [], ℕ, ◌++◌, ◌∷◌}
 use Rattle.mr_io.specs.declared.asked.Asked.{Asked}
-use Rattle.mr_io.specs.declared.duty.Duty.TheVariants.{Copy, Head, Live, Mend, Text}
+use Rattle.mr_io.specs.declared.duty.Duty.TheVariants.{Copy, Head, Text}
+use Rattle.mr_ready.specs.Duties.{duties_of, eyes_on}
 use Rattle.mr_words.specs.declared.rebuild_words.RebuildWords.{RebuildWords}
 use Rattle.mr_steps.specs.Requests.{rebuild_words}
 use Rattle.mr_steps.specs.Losses.{loss_accepted}
 use Rattle.mr_steps.specs.Texts.{matrix_given}
 use Rattle.mr_steps.specs.declared.fault.Fault.{Fault}
 use Rattle.mr_steps.specs.declared.request.Request.{Request}
-use Rattle.mr_steps.specs.declared.request.Request.TheVariants.{Check, Convert, Encode, Make, Plan, Rebuild}
+use Rattle.mr_steps.specs.declared.request.Request.TheVariants.{Check, Convert, Encode, Make, Plan, Rebuild, Scrub}
 use Rattle.mr_top.specs.Convert.{first_accepted}
 use Rattle.mr_top.specs.Encode.{layout_accepted}
 use Rattle.mr_top.specs.Rebuild.{file_accepted, rebuild_accepted}
+use Rattle.mr_top.specs.Scrub.{either_accepted}
 
 -- these eyes, where the steps before them gave a value
 abbrev pub after : {X : Type 0} → Result X Fault → List Asked → List Asked
@@ -23,19 +25,14 @@ abbrev pub plan_eyes : Option (List ℕ) → List Asked
 plan_eyes None = []
 plan_eyes (Some plan) = record { name = plan; duty = Text } ∷ []
 
--- the eyes that mend an image
-abbrev pub mend_eyes : List ℕ → List Asked
-mend_eyes image =
-    record { name = image; duty = Mend } ∷ record { name = image; duty = Live }
-    ∷ record { name = image; duty = Copy } ∷ []
-
 -- the eyes of a rebuild
 abbrev pub rebuild_eyes : (List ℕ → List ℕ) → List ℕ → RebuildWords → List Asked
 rebuild_eyes contents left words =
     record { name = words.matrix; duty = Text }
     ∷ after (loss_accepted contents words.matrix words.lost) (plan_eyes words.plan)
     ++ after (file_accepted contents words) (record { name = words.image; duty = Head } ∷ [])
-    ++ after (rebuild_accepted contents left words) (mend_eyes words.image)
+    ++ after (rebuild_accepted contents left words)
+    (eyes_on words.image (duties_of words.workers words.live))
 
 -- the eyes of a command that reads an image file whole, where the steps up to the matrix, and up to
 -- the layout, gave a value
@@ -58,20 +55,19 @@ request_eyes contents left (Encode matrix payload stripes bytes) =
     record { name = matrix; duty = Text }
     ∷ after (layout_accepted contents matrix stripes bytes)
     (record { name = payload; duty = Copy } ∷ [])
-request_eyes contents left (Rebuild matrix image lost workers budget plan) =
-    rebuild_eyes contents left (rebuild_words matrix image lost workers budget plan)
+request_eyes contents left (Rebuild matrix image lost workers budget plan live) =
+    rebuild_eyes contents left (rebuild_words matrix image lost workers budget plan live)
 request_eyes contents left (Convert matrix image) =
     whole_eyes matrix image (matrix_given (contents matrix))
     (first_accepted contents matrix image)
+request_eyes contents left (Scrub matrix image) =
+    whole_eyes matrix image (matrix_given (contents matrix))
+    (either_accepted contents matrix image)
 
 -- the eyes of words: none where they are not read
 abbrev pub words_eyes : (List ℕ → List ℕ) → List ℕ → Option Request → List Asked
 words_eyes contents left None = []
 words_eyes contents left (Some request) = request_eyes contents left request
-
--- the eyes of an image file that is rebuilt
-abbrev pub image_eyes : List ℕ → List Asked
-image_eyes image = record { name = image; duty = Head } ∷ mend_eyes image
 
 -- all eyes of a command, in order: none where the words are not read
 abbrev pub command_eyes : Option Request → List Asked
@@ -82,8 +78,12 @@ command_eyes (Some (Check matrix lost plan)) =
 command_eyes (Some (Make code p)) = []
 command_eyes (Some (Encode matrix payload stripes bytes)) =
     record { name = matrix; duty = Text } ∷ record { name = payload; duty = Copy } ∷ []
-command_eyes (Some (Rebuild matrix image lost workers budget plan)) =
-    record { name = matrix; duty = Text } ∷ plan_eyes plan ++ image_eyes image
+command_eyes (Some (Rebuild matrix image lost workers budget plan live)) =
+    record { name = matrix; duty = Text }
+    ∷ plan_eyes plan ++ record { name = image; duty = Head } ∷ eyes_on image (duties_of workers live)
 command_eyes (Some (Convert matrix image)) =
+    record { name = matrix; duty = Text } ∷ record { name = image; duty = Head }
+    ∷ record { name = image; duty = Copy } ∷ []
+command_eyes (Some (Scrub matrix image)) =
     record { name = matrix; duty = Text } ∷ record { name = image; duty = Head }
     ∷ record { name = image; duty = Copy } ∷ []

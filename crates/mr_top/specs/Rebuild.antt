@@ -1,37 +1,31 @@
--- The command `rebuild`: what it accepts, and what it writes.
-use Rattle.std.specs.List.{range_with_len}
-use Rattle.std.specs.Prelude.{Err, List, None, Ok, Option, Result, Some, [], codes, decimal, flat_map, if◌then◌else◌, is_some, length, nat_le, nat_lt, option_map, slice_index_or, take, ℕ, ◌&&◌, ◌++◌, ◌+◌, ◌==◌, ◌∷◌, ◌≡◌}
+-- The command `rebuild`: what it accepts.
+use Rattle.std.specs.Prelude.{Bool, Err, List, None, Ok, Option, Result, Some, [], if◌then◌else◌, is_some, length, nat_le, nat_lt, option_map, take, ℕ, ◌&&◌, ◌+◌, ◌==◌, ◌∷◌}
 use Rattle.mr_bits.specs.declared.errors.What.TheVariants.{ScriptBytes}
-use Rattle.mr_choices.specs.Chosen.{lines_chosen, plans_chosen}
+use Rattle.mr_choices.specs.Chosen.{lines_chosen, plans_chosen, singles_chosen}
 use Rattle.mr_choices.specs.Handed.{plan_file_given}
 use Rattle.mr_choices.specs.Rotations.{undetermined_at}
 use Rattle.mr_choices.specs.declared.chosen.ChosenPlan.{ChosenPlan}
 use Rattle.mr_choices.specs.declared.errors.ProblemsError.{ProblemsError}
 use Rattle.mr_choices.specs.declared.errors.ProblemsError.TheVariants.{Memory as ProblemsMemory, Undetermined as IsUndetermined}
 use Rattle.mr_choices.specs.declared.errors.UndeterminedAt.{UndeterminedAt}
-use Rattle.mr_image.specs.Heads.{image_bytes, read_head}
-use Rattle.mr_image.specs.Images.{Image, Layout, image_of, mended}
+use Rattle.mr_eq.specs.Singles.{SinglesOf}
+use Rattle.mr_image.specs.Heads.{read_head}
+use Rattle.mr_image.specs.Images.{Layout}
 use Rattle.mr_image.specs.Rotated.{rotations}
 use Rattle.mr_image.specs.declared.faults.ImageKind.TheVariants.{Head, Planned}
 use Rattle.mr_image.specs.declared.limits.TheConstants.{HEAD_BYTES}
-use Rattle.mr_mend.specs.Replies.{reply_lines}
 use Rattle.mr_mend.specs.Scripts.{asks_of, script_limit}
 use Rattle.mr_mend.specs.declared.asks.Ask.{Ask}
 use Rattle.mr_mend.specs.declared.asks.ScriptFault.{ScriptFault}
 use Rattle.mr_mend.specs.declared.asks.ScriptFault.TheVariants.{Large as IsLargeScript, Line as IsBadLine, Memory as ScriptMemory}
 use Rattle.mr_model.specs.Code.{Code, dimensions}
-use Rattle.mr_plan.specs.PlanLists.{plan_at, recipes_at}
-use Rattle.mr_plan.specs.PlanText.{plan_text}
 use Rattle.mr_plan.specs.Plans.{PlanParts}
+use Rattle.mr_ready.specs.Orders.{OrderParts}
 use Rattle.mr_words.specs.declared.rebuild_words.RebuildWords.{RebuildWords}
-use Rattle.mr_steps.specs.Faults.{joined}
-use Rattle.mr_steps.specs.Lines.{line_text}
 use Rattle.mr_steps.specs.Losses.{targets_given}
 use Rattle.mr_steps.specs.Refusals.{followed_by, ◌>>=◌}
-use Rattle.mr_steps.specs.Sinks.{Output}
 use Rattle.mr_steps.specs.Texts.{matrix_given}
 use Rattle.mr_steps.specs.declared.choice_line.ChoiceLine.{ChoiceLine}
-use Rattle.mr_steps.specs.declared.choice_line.ChoiceLine.TheVariants.{Given as GivenLine}
 use Rattle.mr_steps.specs.declared.fault.Fault.{Fault}
 use Rattle.mr_steps.specs.declared.fault.Fault.TheVariants.{BadImage, BadScript, Memory, TooLarge, UndeterminedAt as RotationFault}
 use Rattle.mr_top.specs.Encode.{or_head_fault}
@@ -108,9 +102,10 @@ abbrev pub lines_used : Code → ℕ → ℕ → ℕ → Option ChosenPlan → L
 lines_used m lost budget n None = lines_chosen m lost budget n
 lines_used m lost budget n (Some handed) = handed.line ∷ []
 
--- the line of the plan of rotation r
-abbrev pub line_at : List ChoiceLine → ℕ → ChoiceLine
-line_at lines r = slice_index_or lines r (GivenLine 0)
+-- the single equations of the lost symbols, one list for each of the first n rotations, where the
+-- reads are served while the image is mended; after that none is needed
+abbrev pub singles_used : Code → ℕ → ℕ → ℕ → Bool → List SinglesOf
+singles_used m lost budget n live = if live then singles_chosen m lost budget n else []
 
 -- ---- what is accepted
 
@@ -129,28 +124,34 @@ image_accepted contents words = do
   handed ← plan_file_given m targets (option_map contents words.plan)
   image_given m targets handed (contents words.image)
 
--- An image of a matrix, the lost symbols and the plan of each rotation in use with the line that says
--- how it was found, and the reads that are asked for.
+-- what is to be rebuilt for these words: by the plan of each rotation in use with the line that
+-- says how it was found, and with the reads that are asked for
+abbrev pub order_for : RebuildWords → Code → ℕ → Option ChosenPlan → Layout → List Ask → OrderParts
+order_for words m targets handed l asks = record {
+  head = l;
+  plans = plans_used m targets words.budget (rotations l) handed;
+  lines = lines_used m targets words.budget (rotations l) handed;
+  singles = singles_used m targets words.budget (rotations l) words.live;
+  asks = asks;
+  workers = words.workers;
+  live = words.live;
+}
+
+-- A matrix and the lost symbols, what is to be rebuilt, and the bytes of the image file.
 pub record RebuildAccepted : Type 0 where
   pub code : Code
   pub lost : ℕ
-  pub plans : List PlanParts
-  pub lines : List ChoiceLine
-  pub layout : Layout
+  pub order : OrderParts
   pub bytes : List ℕ
-  pub asks : List Ask
 
--- a matrix, its lost symbols with the plans that are used for them, the image and the asks
+-- the same, of what was read
 abbrev pub rebuild_of_parts : (List ℕ → List ℕ) → RebuildWords → Code → ℕ → Option ChosenPlan
     → Layout → List Ask → RebuildAccepted
 rebuild_of_parts contents words m targets handed l asks = record {
   code = m;
   lost = targets;
-  plans = plans_used m targets words.budget (rotations l) handed;
-  lines = lines_used m targets words.budget (rotations l) handed;
-  layout = l;
+  order = order_for words m targets handed l asks;
   bytes = contents words.image;
-  asks = asks;
 }
 
 -- rebuild MATRIX IMAGE LOST, with these bytes left in the script
@@ -163,33 +164,3 @@ rebuild_accepted contents left words = do
   l ← image_given m targets handed (contents words.image)
   asks ← asks_given l left
   Ok (rebuild_of_parts contents words m targets handed l asks)
-
--- ---- what is written
-
--- the image in which the lost symbols are rebuilt, in each stripe by its plan
-abbrev pub mended_image_of : RebuildAccepted → Image
-mended_image_of r = mended r.layout (recipes_at r.plans) (image_of r.layout r.bytes)
-
-abbrev pub stripes_text : ℕ → List ℕ
-stripes_text stripes = joined (codes "stripes " ∷ decimal stripes ∷ codes "\n" ∷ [])
-
--- the line before the plan of a rotation, in version 2 alone
-abbrev pub rotation_text : Layout → ℕ → List ℕ
-rotation_text l r =
-    if l.version == 2 then joined (codes "rotation " ∷ decimal r ∷ codes "\n" ∷ []) else []
-
--- the plan of rotation r, and how it was found
-abbrev pub choice_text : Layout → List PlanParts → List ChoiceLine → ℕ → List ℕ
-choice_text l plans lines r =
-    rotation_text l r ++ plan_text (plan_at plans r) ++ line_text (line_at lines r)
-
--- the plan of each rotation in use upwards, and the stripes
-abbrev pub plans_report : Layout → List PlanParts → List ChoiceLine → List ℕ
-plans_report l plans lines =
-    flat_map (choice_text l plans lines) (range_with_len 0 (rotations l)) ++ stripes_text l.stripes
-
--- The mended image is written, and in the report the plans and the lines of the replies.
-pub record IsRebuilt (r : RebuildAccepted) (output : Output) : Type 0 where
-  pub image : output.out ≡ image_bytes r.layout (mended_image_of r)
-  pub report : output.report ≡ plans_report r.layout r.plans r.lines
-      ++ reply_lines (mended_image_of r) r.asks

@@ -1,26 +1,21 @@
 -- The steps of `rebuild`: the eyes that it asks for on the way, and the bytes that it takes.
-use Rattle.std.specs.Prelude.{List, Ok, Option, length, ℕ, ◌*◌, ◌++◌}
+use Rattle.std.specs.Prelude.{List, Ok, Option, Some, ℕ}
 use Rattle.mr_choices.specs.Handed.{handed_file}
 use Rattle.mr_choices.specs.declared.chosen.ChosenPlan.{ChosenPlan}
-use Rattle.mr_image.specs.Images.{Layout, image_of, mended}
-use Rattle.mr_image.specs.Rotated.{rotations}
+use Rattle.mr_image.specs.Images.{Layout}
 use Rattle.mr_image.specs.declared.limits.TheConstants.{HEAD_BYTES}
-use Rattle.mr_io.specs.declared.duty.Duty.TheVariants.{Copy, Head, Live, Mend}
-use Rattle.mr_mend.specs.Mending.{mended_file, members_read}
-use Rattle.mr_mend.specs.Replies.{buffer_lines}
-use Rattle.mr_mend.specs.Serving.{live_reads, reply_bytes}
+use Rattle.mr_io.specs.Growth.{no_bytes}
+use Rattle.mr_io.specs.declared.duty.Duty.TheVariants.{Head}
 use Rattle.mr_mend.specs.declared.asks.Ask.{Ask}
 use Rattle.mr_model.specs.Code.{Code}
-use Rattle.mr_model.specs.Members.{members}
-use Rattle.mr_plan.specs.PlanLists.{recipes_at}
-use Rattle.mr_plan.specs.Plans.{PlanParts, survivors}
+use Rattle.mr_ready.specs.Duties.{duties_of, eyes_on}
+use Rattle.mr_ready.specs.Orders.{OrderParts}
 use Rattle.mr_words.specs.declared.rebuild_words.RebuildWords.{RebuildWords}
 use Rattle.mr_steps.specs.Losses.{targets_given}
 use Rattle.mr_steps.specs.Readings.{Reading, file_taking, given, ◌>>=◌}
-use Rattle.mr_steps.specs.Sinks.{Output}
 use Rattle.mr_steps.specs.TextFiles.{matrix_file}
-use Rattle.mr_steps.specs.declared.choice_line.ChoiceLine.{ChoiceLine}
-use Rattle.mr_top.specs.Rebuild.{asks_given, head_given, layout_allowed, lines_used, plans_report, plans_used}
+use Rattle.mr_top.specs.Findings.{Finding, rebuilding}
+use Rattle.mr_top.specs.Rebuild.{asks_given, head_given, layout_allowed, order_for}
 use Rattle.mr_top.specs.declared.image_read.ImageRead.{ImageRead}
 
 -- the layout of an image file
@@ -35,48 +30,6 @@ unfoldable pub image_file : (List ℕ → List ℕ) → List ℕ → Code → �
 image_file contents image m targets handed = do
   l ← head_file contents image m
   given (layout_allowed m targets handed l)
-
--- the bytes read to mend it: in each stripe those of the set of its plan
-abbrev pub mending_reads : Layout → List PlanParts → ℕ
-mending_reads l plans = members_read plans l.stripes * l.symbol_bytes
-
--- the bytes copied: in each stripe those of a set
-abbrev pub copying_reads : Layout → ℕ → ℕ
-copying_reads l set = l.stripes * (length (members set) * l.symbol_bytes)
-
--- the bytes of the mended image file, and of the replies one after another
-pub record Mended : Type 0 where
-  pub image : List ℕ
-  pub replies : List ℕ
-
--- each reply is its symbol of the mended image
-abbrev pub mended_of : Layout → List PlanParts → List Ask → List ℕ → Mended
-mended_of l plans asks bytes = record {
-  image = mended_file l (recipes_at plans) bytes;
-  replies = reply_bytes (mended l (recipes_at plans) (image_of l bytes)) asks;
-}
-
--- an image file mended by plans, and the replies to the asks, of which the symbols of a set are
--- copied
-unfoldable pub copied_image : (List ℕ → List ℕ) → List ℕ → ℕ → Layout → List PlanParts → List Ask
-    → Reading Mended
-copied_image contents image set l plans asks = do
-  bytes ← file_taking (copying_reads l set) contents image Copy
-  given (Ok (mended_of l plans asks bytes))
-
--- the same, of which the survivors that are asked for are read for their replies
-unfoldable pub replied_image : (List ℕ → List ℕ) → List ℕ → ℕ → Layout → List PlanParts → List Ask
-    → Reading Mended
-replied_image contents image set l plans asks = do
-  _ ← file_taking (live_reads l (recipes_at plans) asks) contents image Live
-  copied_image contents image set l plans asks
-
--- the same, of which the sets of the plans are read to mend it
-unfoldable pub mended_image : (List ℕ → List ℕ) → List ℕ → ℕ → Layout → List PlanParts → List Ask
-    → Reading Mended
-mended_image contents image set l plans asks = do
-  _ ← file_taking (mending_reads l plans) contents image Mend
-  replied_image contents image set l plans asks
 
 -- What a rebuild reads before the script: the matrix, its lost symbols, the plan that was handed in
 -- and the head of the image.
@@ -104,36 +57,21 @@ image_read contents words = do
   l ← image_file contents words.image m targets handed
   given (Ok (parts_as m targets handed l))
 
--- the plans that are used: the one that was handed in, or those of the search within the budget
-abbrev pub plans_for : RebuildWords → ImageParts → List PlanParts
-plans_for words read =
-    plans_used read.matrix read.lost words.budget (rotations read.head) read.handed
+-- what is to be rebuilt of what was read, for these asks
+abbrev pub order_of : RebuildWords → ImageParts → List Ask → OrderParts
+order_of words read asks = order_for words read.matrix read.lost read.handed read.head asks
 
-abbrev pub lines_for : RebuildWords → ImageParts → List ChoiceLine
-lines_for words read =
-    lines_used read.matrix read.lost words.budget (rotations read.head) read.handed
-
--- the report of the plans and the lines of the replies, which stand one after another
-abbrev pub rebuild_report : Layout → List PlanParts → List ChoiceLine → List Ask → List ℕ → List ℕ
-rebuild_report l plans lines asks replies =
-    plans_report l plans lines ++ buffer_lines l.symbol_bytes asks replies
-
--- what `rebuild` writes of an image that is mended by plans
-abbrev pub rebuilt_by : Layout → List PlanParts → List ChoiceLine → List Ask → Mended → Output
-rebuilt_by l plans lines asks mended = record {
-  out = mended.image;
-  report = rebuild_report l plans lines asks mended.replies;
+-- all eyes that mend the image, serve the reads and copy are asked for, and nothing is read by them
+unfoldable pub rebuild_by : (List ℕ → List ℕ) → RebuildWords → ImageParts → List Ask
+    → Reading Finding
+rebuild_by contents words read asks = record {
+  eyes = eyes_on words.image (duties_of words.workers words.live);
+  taken = no_bytes;
+  result = Ok (rebuilding (order_of words read asks) (Some (contents words.image)));
 }
 
--- what `rebuild` writes for what was read, and these asks
-unfoldable pub rebuild_by : (List ℕ → List ℕ) → RebuildWords → ImageParts → List Ask
-    → Reading Output
-rebuild_by contents words read asks = do
-  mended ← mended_image contents words.image (survivors read.matrix read.lost) read.head (plans_for words read) asks
-  given (Ok (rebuilt_by read.head (plans_for words read) (lines_for words read) asks mended))
-
 -- rebuild MATRIX IMAGE LOST, with these bytes left in the script
-unfoldable pub rebuild_answer : (List ℕ → List ℕ) → List ℕ → RebuildWords → Reading Output
+unfoldable pub rebuild_answer : (List ℕ → List ℕ) → List ℕ → RebuildWords → Reading Finding
 rebuild_answer contents left words = do
   read ← image_read contents words
   asks ← given (asks_given read.head left)

@@ -10,6 +10,10 @@ use Rattle.mr_steps.specs.TextFiles.{matrix_file}
 use Rattle.mr_steps.specs.declared.fault.Fault.{Fault}
 use Rattle.mr_top.specs.RebuildSteps.{head_file}
 
+-- an image of either version is allowed
+abbrev pub any_version : Layout → Result Layout Fault
+any_version l = Ok l
+
 -- what is written of the symbols of an image file
 unfoldable pub body_answer : (Layout → List ℕ → Output) → (List ℕ → List ℕ) → List ℕ → Layout
     → Reading Output

@@ -3,7 +3,7 @@
 ghost use Rattle.mr_top.specs.CheckSteps.{check_answer};
 ghost use Rattle.mr_top.specs.Check.{cost_given};
 ghost use Rattle.mr_steps.specs.Losses.{loss_of};
-ghost use Rattle.mr_top.specs.Replies.{HasRoom, output_of};
+ghost use Rattle.mr_top.specs.Replies.{output_of};
 ghost use Rattle.mr_steps.specs.Steps.{Gives, Grows, HasReadCause, IsPastWords, Reads};
 ghost use Rattle.std.specs.Prelude.{◌≡◌, IfOk};
 
@@ -29,7 +29,6 @@ pub(crate) fn check<T, F: Files, S: Source, G>(
     ensures totals { Grows (F.told lent.old.files.now) (F.totals lent.old.files.now)
         (F.totals lent.new.files.now) result
         (λ contents. check_answer contents words.now.matrix words.now.lost words.now.plan) }
-    ensures room { IfOk result HasRoom }
     ensures cause { HasReadCause (F.faults lent.old.files.now)
         (F.faults lent.new.files.now) result }
     ensures past_words { IsPastWords result }

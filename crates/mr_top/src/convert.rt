@@ -10,23 +10,23 @@ ghost use Rattle.mr_io.specs.Counts.{HasCause};
 ghost use Rattle.mr_io.specs.Sights.{sight_with};
 ghost use Rattle.mr_top.specs.Convert.{convert_answer, converted_output, first_version};
 ghost use Rattle.mr_top.specs.WholeImages.{allowed_answer, body_answer};
-ghost use Rattle.mr_top.specs.Replies.{HasRoom, output_of};
+ghost use Rattle.mr_top.specs.Replies.{output_of};
 ghost use Rattle.mr_steps.specs.Steps.{Gives, Grows, HasReadCause, IsPastWords, Reads};
 
+use crate::image_head::image_head;
 use crate::lent::Lent;
-use crate::rebuilding::image_head;
 use crate::reply::Reply;
 use mr_form::{ImageHead, ImageKind};
 use mr_io::{Duty, Eye, Failed, Files, Source, Text};
 use mr_steps::{Fault, matrix_text};
-use mr_words::ConvertWords;
+use mr_words::ImageWords;
 use std::alloc::Global;
 
 /// The image of version 2 that is made of an image file, for a matrix file. All memory is taken
 /// before the first symbol is read.
 pub(crate) fn convert<T, F: Files, S: Source, G>(
     lent: &mut Lent<'_, '_, '_, T, F, S, G>,
-    words: &ConvertWords,
+    words: &ImageWords,
 ) -> Result<Reply, Fault>
     ensures same_files { lent.new.files.ghost_name ≡ lent.old.files.ghost_name }
     ensures same_script { lent.new.script.ghost_name ≡ lent.old.script.ghost_name }
@@ -36,7 +36,6 @@ pub(crate) fn convert<T, F: Files, S: Source, G>(
     ensures totals { Grows (F.told lent.old.files.now) (F.totals lent.old.files.now)
         (F.totals lent.new.files.now) result
         (λ contents. convert_answer contents words.now.matrix words.now.image) }
-    ensures room { IfOk result HasRoom }
     ensures cause { HasReadCause (F.faults lent.old.files.now)
         (F.faults lent.new.files.now) result }
     ensures past_words { IsPastWords result }
@@ -59,7 +58,6 @@ fn converted_image<F: Files>(
         (λ contents. allowed_answer first_version converted_output contents image.now head.now) }
     ensures totals { Grows (F.told files.old) (F.totals files.old) (F.totals files.new) result
         (λ contents. allowed_answer first_version converted_output contents image.now head.now) }
-    ensures room { IfOk result HasRoom }
     ensures cause { HasReadCause (F.faults files.old) (F.faults files.new) result }
     ensures past_words { IsPastWords result }
 {
@@ -96,7 +94,6 @@ fn converted_in<F: Files>(
         (λ contents. body_answer converted_output contents image.now head.now) }
     ensures totals { Grows (F.told files.old) (F.totals files.old) (F.totals files.new) result
         (λ contents. body_answer converted_output contents image.now head.now) }
-    ensures room { IfOk result HasRoom }
     ensures cause { HasReadCause (F.faults files.old) (F.faults files.new) result }
     ensures past_words { IsPastWords result }
 {

@@ -6,7 +6,7 @@ ghost use Rattle.mr_io.specs.Sights.{sight_with};
 ghost use Rattle.mr_encode.specs.Data.{data_bytes};
 ghost use Rattle.mr_top.specs.EncodeSteps.{encode_answer, encoded_file};
 ghost use Rattle.mr_top.specs.Encode.{encoded_given, layout_given};
-ghost use Rattle.mr_top.specs.Replies.{HasRoom, output_of};
+ghost use Rattle.mr_top.specs.Replies.{output_of};
 ghost use Rattle.mr_steps.specs.Steps.{Gives, Grows, HasReadCause, IsPastWords, Reads};
 
 use crate::lent::Lent;
@@ -34,7 +34,6 @@ pub(crate) fn encode<T, F: Files, S: Source, G>(
         (F.totals lent.new.files.now) result
         (λ contents. encode_answer contents words.now.matrix words.now.payload
         words.now.stripes words.now.bytes) }
-    ensures room { IfOk result HasRoom }
     ensures cause { HasReadCause (F.faults lent.old.files.now)
         (F.faults lent.new.files.now) result }
     ensures past_words { IsPastWords result }
@@ -45,12 +44,13 @@ pub(crate) fn encode<T, F: Files, S: Source, G>(
     Ok(Reply::Encode { image })
 }
 
-/// The head of an image for a matrix: so many stripes, with symbols of so many bytes.
+/// The head of an image of version 1 for a matrix: so many stripes, with symbols of so many bytes.
 fn head_for(matrix: &Matrix, bytes: u32, stripes: u32) -> Result<ImageHead, Fault>
     ensures given { Gives (λ head. head) result (layout_given matrix.now bytes stripes) }
     ensures devices { IfOk result (λ head. head.devices ≡ matrix.now.devices) }
     ensures symbols { IfOk result
         (λ head. head.symbols_per_device ≡ matrix.now.symbols_per_device) }
+    ensures version { IfOk result (λ head. head.version ≡ 1) }
     ensures cause { HasReadCause 0 0 result }
     ensures past_words { IsPastWords result }
 {
@@ -67,6 +67,7 @@ fn encoded_image<T, F: Files, S: Source, G>(
 ) -> Result<Vec<u8>, Fault>
     requires devices { head.now.devices ≡ matrix.now.devices }
     requires symbols { head.now.symbols_per_device ≡ matrix.now.symbols_per_device }
+    requires version { head.now.version ≡ 1 }
     ensures same_files { lent.new.files.ghost_name ≡ lent.old.files.ghost_name }
     ensures same_script { lent.new.script.ghost_name ≡ lent.old.script.ghost_name }
     ensures kept { lent.new.script.now ≡ lent.old.script.now }
@@ -96,6 +97,7 @@ fn image_behind<E: Eye>(
 ) -> Result<Vec<u8>, Fault>
     requires devices { head.now.devices ≡ matrix.now.devices }
     requires symbols { head.now.symbols_per_device ≡ matrix.now.symbols_per_device }
+    requires version { head.now.version ≡ 1 }
     ensures given { ForSome (E.sight eye.old).bytes
         (λ bytes. Gives (λ v. v.items) result (encoded_given matrix.now head.now bytes)) }
     ensures taken { OnOk result

@@ -7,9 +7,9 @@ ghost use Rattle.mr_image.specs.Rotated.{FitsCode, rotations};
 ghost use Rattle.mr_top.specs.Rebuild.{layout_allowed, rotation_fault};
 ghost use Rattle.mr_top.specs.RebuildSteps.{image_read, parts_of};
 ghost use Rattle.mr_top.specs.ImagesRead.{HasFile, IsImageRead};
-ghost use Rattle.mr_steps.specs.Steps.{Gives, Grows, HasReadCause, IsPastWords, Reads};
+ghost use Rattle.mr_steps.specs.Steps.{Gives, Grows, HasReadCause, IsPastWords, IsUnread, Reads};
 
-use crate::rebuilding::image_head;
+use crate::image_head::image_head;
 use mr_bits::{Mask, Matrix};
 use mr_choices::{ChosenPlan, ProblemsError, UndeterminedAt, handed_plan, problems_of};
 use mr_eq::Problem;
@@ -46,6 +46,7 @@ pub(crate) fn read_image<F: Files>(
         (λ contents. image_read contents words.now) }
     ensures totals { Grows (F.told files.old) (F.totals files.old) (F.totals files.new) result
         (λ contents. image_read contents words.now) }
+    ensures unread { IsUnread (F.totals files.old) (F.totals files.new) }
     ensures sound { IfOk result IsImageRead }
     ensures long { IfOk result
         (λ read. HasFile (F.told files.new) words.now.image read.head) }

@@ -2,16 +2,19 @@
 #![tactic(auto)]
 
 mod asking;
+mod carrying;
 mod check;
 mod convert;
 mod encode;
+mod image_head;
 mod image_read;
 mod lent;
 mod make;
+mod outcome;
 mod plan;
 mod rebuild;
-mod rebuilding;
 mod reply;
+mod scrub;
 mod top;
 
 pub use mr_choices::{ChosenPlan, ChosenPlans};

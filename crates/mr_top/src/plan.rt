@@ -3,7 +3,7 @@
 ghost use Rattle.std.specs.Prelude.{◌≡◌, IfOk};
 ghost use Rattle.mr_top.specs.Plan.{plan_given};
 ghost use Rattle.mr_top.specs.PlanSteps.{plan_answer};
-ghost use Rattle.mr_top.specs.Replies.{HasRoom, output_of};
+ghost use Rattle.mr_top.specs.Replies.{output_of};
 ghost use Rattle.mr_words.specs.Texts.{IsWorkers};
 ghost use Rattle.mr_steps.specs.Steps.{Gives, Grows, HasReadCause, IsPastWords, Reads};
 
@@ -30,7 +30,6 @@ pub(crate) fn plan<T: Threads + Sync, F: Files, S: Source, G: Gate + Sync>(
     ensures totals { Grows (F.told lent.old.files.now) (F.totals lent.old.files.now)
         (F.totals lent.new.files.now) result
         (λ contents. plan_answer contents words.now.matrix words.now.lost words.now.budget) }
-    ensures room { IfOk result HasRoom }
     ensures cause { HasReadCause (F.faults lent.old.files.now)
         (F.faults lent.new.files.now) result }
     ensures past_words { IsPastWords result }
@@ -54,7 +53,6 @@ fn plan_of<T: Threads + Sync, G: Gate + Sync>(
 ) -> Result<Reply, Fault>
     requires workers { IsWorkers choosing.now.workers }
     ensures given { Gives output_of result (plan_given choosing.now.budget matrix.now lost.now) }
-    ensures room { IfOk result HasRoom }
     ensures cause { HasReadCause 0 0 result }
     ensures past_words { IsPastWords result }
 {

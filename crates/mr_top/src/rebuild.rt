@@ -1,26 +1,27 @@
 //! The command `rebuild`.
 
-ghost use Rattle.std.specs.Prelude.{◌≡◌, ◌+◌, length, All, IfOk};
+ghost use Rattle.std.specs.Prelude.{◌≡◌, ◌+◌, ◌^◌, ◌<◌, length, All, IfOk};
 ghost use Rattle.mr_image.specs.Rotated.{rotations};
 ghost use Rattle.mr_io.specs.Reading.{ReadsFront};
 ghost use Rattle.mr_mend.specs.Rotations.{AreValidPlans};
 ghost use Rattle.mr_mend.specs.Scripts.{IsInRange, script_limit};
-ghost use Rattle.mr_top.specs.Rebuild.{image_accepted, lines_used, plans_used};
+ghost use Rattle.mr_top.specs.Rebuild.{image_accepted, lines_used, plans_used, singles_used};
 ghost use Rattle.mr_top.specs.RebuildSteps.{parts_of, rebuild_answer, rebuild_by};
 ghost use Rattle.mr_top.specs.ImagesRead.{HasFile, IsImageRead};
-ghost use Rattle.mr_top.specs.Replies.{HasRoom, output_of};
+ghost use Rattle.mr_top.specs.Outcomes.{IsHeld, finding_of, told_after};
 ghost use Rattle.mr_words.specs.Texts.{IsWorkers};
-ghost use Rattle.mr_steps.specs.Steps.{EndsScript, FollowsWith, Grows, HasReadCause, HasReadCauses, IsPastWords, KeepsUnless, Reads};
+ghost use Rattle.mr_steps.specs.Steps.{EndsScript, FollowsWith, HasReadCause, HasReadCauses, IsPastWords, IsUnread, KeepsUnless, Reads};
 
 use crate::asking::asks_in;
 use crate::image_read::{ImageRead, read_image};
 use crate::lent::Lent;
-use crate::rebuilding::{Mending, mend_image};
-use crate::reply::Reply;
+use crate::outcome::Outcome;
 use mr_bits::NoMemory;
-use mr_choices::{Choosing, ChosenPlans, plans_of};
+use mr_choices::{Choosing, ChosenPlans, plans_of, singles_of};
+use mr_eq::Singles;
 use mr_io::{Files, Gate, Source};
-use mr_mend::{Ask, Rebuild, Room};
+use mr_mend::Ask;
+use mr_ready::Ready;
 use mr_steps::Fault;
 use mr_words::RebuildWords;
 use std::thread::Threads;
@@ -31,18 +32,19 @@ use std::thread::Threads;
 pub(crate) fn rebuild<T: Threads + Sync, F: Files, S: Source, G: Gate + Sync>(
     lent: &mut Lent<'_, '_, '_, T, F, S, G>,
     words: &RebuildWords,
-) -> Result<Reply, Fault>
+) -> Result<Outcome<F::E>, Fault>
     requires workers { IsWorkers words.now.workers }
     ensures same_files { lent.new.files.ghost_name ≡ lent.old.files.ghost_name }
     ensures same_script { lent.new.script.ghost_name ≡ lent.old.script.ghost_name }
-    ensures follows { FollowsWith output_of (F.told lent.old.files.now) (F.told lent.new.files.now)
-        (F.totals lent.old.files.now) (F.totals lent.new.files.now)
-        (S.left lent.old.script.now) result
+    ensures follows { FollowsWith (finding_of F.E.sight) (F.told lent.old.files.now)
+        (told_after result (F.told lent.new.files.now)) (F.totals lent.old.files.now)
+        (F.totals lent.new.files.now) (S.left lent.old.script.now) result
         (λ contents left. rebuild_answer contents left words.now) }
+    ensures held { IfOk result (IsHeld F.E.sight F.E.faults (F.told lent.new.files.now)) }
+    ensures unread { IsUnread (F.totals lent.old.files.now) (F.totals lent.new.files.now) }
     ensures ended { EndsScript (S.left lent.old.script.now) (S.left lent.new.script.now) result }
     ensures script_front { ReadsFront (S.left lent.old.script.now) (S.left lent.new.script.now)
         (script_limit + 1) }
-    ensures room { IfOk result HasRoom }
     ensures kept { KeepsUnless (F.told lent.old.files.now)
         (λ contents. image_accepted contents words.now)
         lent.old.script.now lent.new.script.now }
@@ -55,27 +57,27 @@ pub(crate) fn rebuild<T: Threads + Sync, F: Files, S: Source, G: Gate + Sync>(
     rebuild_read(lent, words, read, asks)
 }
 
-/// The same, where all was read up to the script, which asks for these reads. All memory is taken
-/// before the first byte of the image is read.
+/// The same, where all was read up to the script, which asks for these reads: all memory is taken
+/// and all eyes are asked for before the first byte of the image is read behind its head.
 fn rebuild_read<T: Threads + Sync, F: Files, S: Source, G: Gate + Sync>(
     lent: &mut Lent<'_, '_, '_, T, F, S, G>,
     words: &RebuildWords,
     read: ImageRead,
     asks: Vec<Ask>,
-) -> Result<Reply, Fault>
+) -> Result<Outcome<F::E>, Fault>
     requires workers { IsWorkers words.now.workers }
     requires read { IsImageRead read }
     requires long { HasFile (F.told lent.old.files.now) words.now.image read.head }
     requires asks { All (IsInRange read.head) asks.items }
+    requires few { length asks.items < 2 ^ 32 }
     ensures same_files { lent.new.files.ghost_name ≡ lent.old.files.ghost_name }
     ensures same_script { lent.new.script.ghost_name ≡ lent.old.script.ghost_name }
     ensures kept { lent.new.script.now ≡ lent.old.script.now }
-    ensures reads { Reads output_of (F.told lent.old.files.now) (F.told lent.new.files.now) result
+    ensures reads { Reads (finding_of F.E.sight) (F.told lent.old.files.now)
+        (told_after result (F.told lent.new.files.now)) result
         (λ contents. rebuild_by contents words.now (parts_of read) asks.items) }
-    ensures totals { Grows (F.told lent.old.files.now) (F.totals lent.old.files.now)
-        (F.totals lent.new.files.now)
-        result (λ contents. rebuild_by contents words.now (parts_of read) asks.items) }
-    ensures room { IfOk result HasRoom }
+    ensures held { IfOk result (IsHeld F.E.sight F.E.faults (F.told lent.new.files.now)) }
+    ensures totals { F.totals lent.new.files.now ≡ F.totals lent.old.files.now }
     ensures cause { HasReadCause (F.faults lent.old.files.now)
         (F.faults lent.new.files.now) result }
     ensures past_words { IsPastWords result }
@@ -88,24 +90,48 @@ fn rebuild_read<T: Threads + Sync, F: Files, S: Source, G: Gate + Sync>(
         budget: words.budget,
         workers: words.workers,
     };
+    let singles = singles_for(&choosing, &read, words.live)?;
     let chosen = plans_for(&choosing, read)?;
-    let room = Room::new(lent.tools.alloc, &head, &chosen.plans, &asks)?;
-    let mending = Mending {
-        image: &words.image,
-        rebuild: Rebuild {
-            head: &head,
-            plans: &chosen.plans,
-            asks: &asks,
-            kernel: lent.tools.kernel,
-        },
-    };
-    let rebuilt = mend_image(lent.files, &mending, room)?;
-    Ok(Reply::Rebuild {
-        rebuilt,
-        chosen,
+    let ChosenPlans { plans, lines } = chosen;
+    match Ready::make(
+        lent.tools.alloc,
+        lent.files,
+        words.image.as_str(),
         head,
+        plans,
+        lines,
+        singles,
         asks,
-    })
+        words.workers,
+        words.live,
+    ) {
+        Ok(ready) => Ok(Outcome::Ready(ready)),
+        Err(error) => Err(Fault::from(error)),
+    }
+}
+
+/// The single equations of the lost symbols in each rotation in use, each within the budget, where
+/// the reads are served while the image is mended. After that none is needed.
+fn singles_for<T: Threads + Sync, G: Gate + Sync>(
+    choosing: &Choosing<T, G>,
+    read: &ImageRead,
+    live: bool,
+) -> Result<Vec<Singles>, NoMemory>
+    requires { IsImageRead read.now }
+    ensures { IfOk result (λ singles. singles.items ≡ singles_used read.now.matrix read.now.lost
+        choosing.now.budget (rotations read.now.head) live) }
+{
+    if live {
+        singles_of(
+            choosing,
+            &read.head,
+            &read.matrix,
+            read.lost,
+            &read.problems,
+        )
+    } else {
+        Ok(Vec::new(choosing.alloc))
+    }
 }
 
 /// The plan that was handed in, or those that the search gives, one for each rotation in use, each

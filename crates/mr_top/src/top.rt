@@ -14,22 +14,26 @@ ghost use Rattle.mr_top.specs.Answers.{Answers};
 ghost use Rattle.mr_steps.specs.Sinks.{IsReported, HasLine, Reports, TakesFront};
 ghost use Rattle.mr_steps.specs.Faults.{fault_line, fault_status};
 ghost use Rattle.mr_mend.specs.Scripts.{script_limit};
-ghost use Rattle.mr_top.specs.Replies.{HasRoom, output_of};
+ghost use Rattle.mr_top.specs.Outcomes.{IsHeld, finding_of, told_after};
+ghost use Rattle.mr_top.specs.Replies.{output_of};
 ghost use Rattle.mr_steps.specs.Requests.{IsRequest, request_of};
-ghost use Rattle.mr_steps.specs.Steps.{EndsScript, FollowsWith, HasReadCauses, IsForeseen, IsLeft, IsPastWords};
+ghost use Rattle.mr_steps.specs.Steps.{EndsScript, FollowsWith, HasReadCauses, IsForeseen, IsLeft, IsPastWords, IsUnread};
 
+use crate::carrying::carry_out;
 use crate::check::check;
 use crate::convert::convert;
 use crate::encode::encode;
 use crate::lent::{Lent, Tools};
 use crate::make::make;
+use crate::outcome::{Outcome, replied};
 use crate::plan::plan;
 use crate::rebuild::rebuild;
 use crate::reply::Reply;
+use crate::scrub::scrub;
 use mr_io::{Files, Gate, Sink, Source};
 use mr_kern::XorKernel;
 use mr_steps::{Fault, Request, read_words, refuse};
-use mr_words::{CheckWords, ConvertWords, EncodeWords, PlanWords, RebuildWords};
+use mr_words::{CheckWords, EncodeWords, ImageWords, PlanWords, RebuildWords};
 use std::alloc::Global;
 use std::thread::Threads;
 
@@ -95,6 +99,10 @@ pub fn run<T: Threads + Sync, F: Files, S: Source, O: Sink, R: Sink, G: Gate + S
         → (F.faults files.new ≡ F.faults files.old) × (S.faults script.new ≡ S.faults script.old)
         × (O.faults out.new ≡ O.faults out.old) × (R.faults report.new ≡ R.faults report.old) }
 
+    // A rebuild that comes to want of memory read nothing of the image behind its head.
+    ensures memory_first { result ≡ 11 → asks_script (request_of (map string_bytes words.now)) ≡ true
+        → IsUnread (F.totals files.old) (F.totals files.new) }
+
     // Whatever is left in the script, the eyes asked for are a front of the command's.
     ensures asked_of_command { IfSome (F.told files.old)
         (λ told. AsksFront told (F.told files.new)
@@ -121,7 +129,16 @@ pub fn run<T: Threads + Sync, F: Files, S: Source, O: Sink, R: Sink, G: Gate + S
         kernel,
     };
     match answer_lent(tools, words, files, script) {
-        Ok(mut reply) => write_reply(&mut reply, out, report),
+        Ok(Outcome::Reply(reply)) => write_reply(&reply, out, report),
+        Ok(Outcome::Ready(ready)) => {
+            let tools = Tools {
+                rt,
+                alloc,
+                gate,
+                kernel,
+            };
+            carry_out(tools, files, ready, out, report)
+        }
         Err(fault) => refuse(fault, report),
     }
 }
@@ -132,11 +149,14 @@ fn answer_lent<T: Threads + Sync, F: Files, S: Source, G: Gate + Sync>(
     words: &[String],
     files: &mut F,
     script: &mut S,
-) -> Result<Reply, Fault>
-    ensures follows { FollowsWith output_of (F.told files.old) (F.told files.new)
-        (F.totals files.old) (F.totals files.new) (S.left script.old) result
+) -> Result<Outcome<F::E>, Fault>
+    ensures follows { FollowsWith (finding_of F.E.sight) (F.told files.old)
+        (told_after result (F.told files.new)) (F.totals files.old) (F.totals files.new)
+        (S.left script.old) result
         (λ contents left. answer (map string_bytes words.now) contents left) }
-    ensures room { IfOk result HasRoom }
+    ensures held { IfOk result (IsHeld F.E.sight F.E.faults (F.told files.new)) }
+    ensures unread { asks_script (request_of (map string_bytes words.now)) ≡ true
+        → IsUnread (F.totals files.old) (F.totals files.new) }
     ensures ended { asks_script (request_of (map string_bytes words.now)) ≡ true
         → EndsScript (S.left script.old) (S.left script.new) result }
     ensures script_front { ReadsFront (S.left script.old) (S.left script.new) (script_limit + 1) }
@@ -163,14 +183,16 @@ fn answer_lent<T: Threads + Sync, F: Files, S: Source, G: Gate + Sync>(
 fn answer_words<T: Threads + Sync, F: Files, S: Source, G: Gate + Sync>(
     lent: &mut Lent<'_, '_, '_, T, F, S, G>,
     words: &[String],
-) -> Result<Reply, Fault>
+) -> Result<Outcome<F::E>, Fault>
     ensures same_files { lent.new.files.ghost_name ≡ lent.old.files.ghost_name }
     ensures same_script { lent.new.script.ghost_name ≡ lent.old.script.ghost_name }
-    ensures follows { FollowsWith output_of (F.told lent.old.files.now) (F.told lent.new.files.now)
-        (F.totals lent.old.files.now) (F.totals lent.new.files.now)
-        (S.left lent.old.script.now) result
+    ensures follows { FollowsWith (finding_of F.E.sight) (F.told lent.old.files.now)
+        (told_after result (F.told lent.new.files.now)) (F.totals lent.old.files.now)
+        (F.totals lent.new.files.now) (S.left lent.old.script.now) result
         (λ contents left. answer (map string_bytes words.now) contents left) }
-    ensures room { IfOk result HasRoom }
+    ensures held { IfOk result (IsHeld F.E.sight F.E.faults (F.told lent.new.files.now)) }
+    ensures unread { asks_script (request_of (map string_bytes words.now)) ≡ true
+        → IsUnread (F.totals lent.old.files.now) (F.totals lent.new.files.now) }
     ensures ended { asks_script (request_of (map string_bytes words.now)) ≡ true
         → EndsScript (S.left lent.old.script.now) (S.left lent.new.script.now) result }
     ensures script_front { ReadsFront (S.left lent.old.script.now) (S.left lent.new.script.now)
@@ -194,14 +216,17 @@ fn answer_words<T: Threads + Sync, F: Files, S: Source, G: Gate + Sync>(
 fn answer_request<T: Threads + Sync, F: Files, S: Source, G: Gate + Sync>(
     lent: &mut Lent<'_, '_, '_, T, F, S, G>,
     request: Request,
-) -> Result<Reply, Fault>
+) -> Result<Outcome<F::E>, Fault>
     requires { IsRequest request }
     ensures same_files { lent.new.files.ghost_name ≡ lent.old.files.ghost_name }
     ensures same_script { lent.new.script.ghost_name ≡ lent.old.script.ghost_name }
-    ensures follows { FollowsWith output_of (F.told lent.old.files.now) (F.told lent.new.files.now)
-        (F.totals lent.old.files.now) (F.totals lent.new.files.now) (S.left lent.old.script.now)
-        result (λ contents left. command_answer contents left request) }
-    ensures room { IfOk result HasRoom }
+    ensures follows { FollowsWith (finding_of F.E.sight) (F.told lent.old.files.now)
+        (told_after result (F.told lent.new.files.now)) (F.totals lent.old.files.now)
+        (F.totals lent.new.files.now) (S.left lent.old.script.now) result
+        (λ contents left. command_answer contents left request) }
+    ensures held { IfOk result (IsHeld F.E.sight F.E.faults (F.told lent.new.files.now)) }
+    ensures unread { asks_script (Some request) ≡ true
+        → IsUnread (F.totals lent.old.files.now) (F.totals lent.new.files.now) }
     ensures ended { asks_script (Some request) ≡ true
         → EndsScript (S.left lent.old.script.now) (S.left lent.new.script.now) result }
     ensures script_front { ReadsFront (S.left lent.old.script.now) (S.left lent.new.script.now)
@@ -221,7 +246,7 @@ fn answer_request<T: Threads + Sync, F: Files, S: Source, G: Gate + Sync>(
             lost,
             workers,
             budget,
-        } => plan(
+        } => replied(plan(
             lent,
             &PlanWords {
                 matrix,
@@ -229,15 +254,17 @@ fn answer_request<T: Threads + Sync, F: Files, S: Source, G: Gate + Sync>(
                 workers,
                 budget,
             },
-        ),
-        Request::Check { matrix, lost, plan } => check(lent, &CheckWords { matrix, lost, plan }),
-        Request::Make { code, p } => Ok(make(code, p)),
+        )),
+        Request::Check { matrix, lost, plan } => {
+            replied(check(lent, &CheckWords { matrix, lost, plan }))
+        }
+        Request::Make { code, p } => Ok(Outcome::Reply(make(code, p))),
         Request::Encode {
             matrix,
             payload,
             stripes,
             bytes,
-        } => encode(
+        } => replied(encode(
             lent,
             &EncodeWords {
                 matrix,
@@ -245,7 +272,7 @@ fn answer_request<T: Threads + Sync, F: Files, S: Source, G: Gate + Sync>(
                 stripes,
                 bytes,
             },
-        ),
+        )),
         Request::Rebuild {
             matrix,
             image,
@@ -253,6 +280,7 @@ fn answer_request<T: Threads + Sync, F: Files, S: Source, G: Gate + Sync>(
             workers,
             budget,
             plan,
+            live,
         } => rebuild(
             lent,
             &RebuildWords {
@@ -262,21 +290,24 @@ fn answer_request<T: Threads + Sync, F: Files, S: Source, G: Gate + Sync>(
                 workers,
                 budget,
                 plan,
+                live,
             },
         ),
-        Request::Convert { matrix, image } => convert(lent, &ConvertWords { matrix, image }),
+        Request::Convert { matrix, image } => {
+            replied(convert(lent, &ImageWords { matrix, image }))
+        }
+        Request::Scrub { matrix, image } => replied(scrub(lent, &ImageWords { matrix, image })),
     }
 }
 
-fn write_reply<O: Sink, R: Sink>(reply: &mut Reply, out: &mut O, report: &mut R) -> u8
-    requires { HasRoom reply.old }
+fn write_reply<O: Sink, R: Sink>(reply: &Reply, out: &mut O, report: &mut R) -> u8
     ensures status { (result ≡ 0) ⊎ (result ≡ 10) }
-    ensures written { result ≡ 0 → Takes (O.held out.old) (O.held out.new) (output_of reply.old).out
-        × Takes (R.held report.old) (R.held report.new) (output_of reply.old).report }
+    ensures written { result ≡ 0 → Takes (O.held out.old) (O.held out.new) (output_of reply.now).out
+        × Takes (R.held report.old) (R.held report.new) (output_of reply.now).report }
     ensures cut { result ≡ 10
-        → TakesFront (O.held out.old) (O.held out.new) (output_of reply.old).out }
+        → TakesFront (O.held out.old) (O.held out.new) (output_of reply.now).out }
     ensures reported { result ≡ 10
-        → Reports 10 (Ok (output_of reply.old)) (O.held out.old) (O.held out.new)
+        → Reports 10 (Ok (output_of reply.now)) (O.held out.old) (O.held out.new)
         (R.held report.old) (R.held report.new) (Rose (R.faults report.old) (R.faults report.new)) }
     ensures cause { result ≡ 10
         → Rose (O.faults out.old) (O.faults out.new) ⊎ Rose (R.faults report.old)

@@ -1,10 +1,9 @@
 //! Two workers that are held at the gate until the other has come.
 
-use crate::tests::marks::Mark;
 use crate::tests::values::problem_of;
 use mr_bits::Mask;
 use mr_eq::Found;
-use mr_fixture::RDP_3;
+use mr_fixture::{Mark, RDP_3};
 use mr_io::{Gate, Point};
 use mr_search::search;
 use std::test::Fail;

@@ -1,7 +1,7 @@
 //! Two workers that take turns at random, over codes that are drawn: they find what one thread finds.
 
-use crate::tests::marks::Mark;
 use crate::tests::values::problem_of;
+use mr_fixture::Mark;
 use mr_front::search_one;
 use mr_io::{Gate, Point};
 use mr_search::search;

@@ -184,7 +184,7 @@ const TWO_REFUSED: Case = Case {
 static TWO_STRIPES: Case = TWO;
 
 /// Calls of the eyes of the matrix, of the head and of the symbols that fail, and the bytes that are taken before them.
-static READS: [Unread; 6] = [
+pub static READS: [Unread; 6] = [
     (&[(1, 0)], [0; 5]),
     (&[(2, 0)], [55, 0, 0, 0, 0]),
     (&[(2, 1)], [55, 0, 0, 0, 0]),

@@ -3,7 +3,7 @@
 use crate::tests::rows::{Row, check_rows};
 use mr_fixture::{RDP_3, RDP_5, shown};
 use mr_io::OpenGate;
-use mr_runs::{Bytes, Given, Trial, run_by};
+use mr_runs::{Bytes, Given, Trial, check_trial, run_by};
 use std::alloc::Global;
 use std::process::Abort;
 use std::test::Fail;
@@ -137,6 +137,39 @@ fn makers(rt: HostRuntime) -> Result<(), Fail> {
             shown(&line_of)
         );
     }
+    Ok(())
+}
+
+/// The least plan for row-diagonal parity for the prime 11 with device 0 lost. Another program found it from the definitions.
+const LEAST_11: &str = "plan 1 least
+set 10 11 12 13 15 16 17 18 19 20 21 22 25 26 27 28 29 30 31 35 36 37 38 39 40 45 46 47 48 49 55 56 57 58 59 \
+65 66 67 68 69 74 75 76 77 78 79 83 84 85 86 87 88 89 92 93 94 95 96 97 98 99 101 102 103 104 105 106 107 108 \
+109 110 111 112 113 114
+0 = 29 38 47 56 65 74 83 92 101 110
+1 = 10 39 48 57 66 75 84 93 102 111
+2 = 11 20 49 58 67 76 85 94 103 112
+3 = 12 21 30 59 68 77 86 95 104 113
+4 = 13 22 31 40 69 78 87 96 105 114
+5 = 15 25 35 45 55 65 75 85 95 105
+6 = 16 26 36 46 56 66 76 86 96 106
+7 = 17 27 37 47 57 67 77 87 97 107
+8 = 18 28 38 48 58 68 78 88 98 108
+9 = 19 29 39 49 59 69 79 89 99 109
+end
+";
+
+/// The plan of a larger search than that of `plan` is taken: it is valid, and reads 75 symbols.
+#[test]
+fn larger_plan(rt: HostRuntime) -> Result<(), Fail> {
+    let (matrix, _) = answer_of(&rt, rt.alloc(), b"", "make rdp 11")?;
+    let bytes = (matrix.len() + LEAST_11.len()) as u64;
+    let trial = Trial::bare(rt.alloc())?
+        .by(rt.alloc(), "check m 0 p")?
+        .over(rt.alloc(), "m", &matrix)?
+        .over(rt.alloc(), "p", LEAST_11.as_bytes())?
+        .ends(rt.alloc(), 0, b"valid 75\n", b"")?
+        .takes([bytes, 0, 0, 0, 0]);
+    check_trial(&rt, rt.alloc(), trial)?;
     Ok(())
 }
 

@@ -1,5 +1,5 @@
 use Rattle.mr_io.proofs.Consuming.{front_none}
-use Rattle.std.proofs.Common.{◌+◌, Ok, subst, sym}
+use Rattle.std.proofs.Common.{◌+◌, Ok, refl, subst, sym}
 use Rattle.mr_io.specs.Reading.{ReadsFront}
 use Rattle.mr_mend.specs.Scripts.{script_limit}
 use Rattle.mr_top.specs.CheckSteps.{check_answer}
@@ -9,34 +9,40 @@ use Rattle.mr_top.specs.Make.{make_given}
 use Rattle.mr_top.specs.PlanSteps.{plan_answer}
 use Rattle.mr_steps.specs.Readings.{given}
 use Rattle.mr_top.specs.Replies.{output_of}
+use Rattle.mr_top.specs.declared.outcome.Outcome.TheVariants.{Reply}
+use Rattle.mr_top.specs.Scrub.{scrub_answer}
 use Rattle.mr_steps.proofs.Chains.{reads_given}
 use Rattle.mr_steps.proofs.Growing.{grows_given}
-use Rattle.mr_top.proofs.WithScript.{with-files, with-request}
+use Rattle.mr_top.proofs.WithScript.{with-reply, with-request}
 use Rattle.mr_top.proofs.top.answer_request.Goals as goal
 
 pub returns-in-Plan-clause-follows : goal.returns-in-Plan-clause-follows
-returns-in-Plan-clause-follows g c = with-request _ _ _ _ _ _ _ _ c.in-Plan.is (with-files output_of _ _ _ _ _ _
-    (λ contents. plan_answer contents c.in-Plan.matrix c.in-Plan.lost c.in-Plan.budget) c.plan.ensures.reads c.plan.ensures.totals)
+returns-in-Plan-clause-follows g c = with-request g.F.E.Eye.sight _ _ _ _ _ _ _ _ c.in-Plan.is (with-reply g.F.E.Eye.sight _ _ _ _ _ c.plan.result c.replied.result
+    (λ contents. plan_answer contents c.in-Plan.matrix c.in-Plan.lost c.in-Plan.budget) c.replied.ensures c.plan.ensures.reads c.plan.ensures.totals)
 
 pub returns-in-Check-clause-follows : goal.returns-in-Check-clause-follows
-returns-in-Check-clause-follows g c = with-request _ _ _ _ _ _ _ _ c.in-Check.is (with-files output_of _ _ _ _ _ _
-    (λ contents. check_answer contents c.in-Check.matrix c.in-Check.lost c.in-Check.plan) c.check.ensures.reads c.check.ensures.totals)
+returns-in-Check-clause-follows g c = with-request g.F.E.Eye.sight _ _ _ _ _ _ _ _ c.in-Check.is (with-reply g.F.E.Eye.sight _ _ _ _ _ c.check.result c.replied-in-Check.result
+    (λ contents. check_answer contents c.in-Check.matrix c.in-Check.lost c.in-Check.plan) c.replied-in-Check.ensures c.check.ensures.reads c.check.ensures.totals)
 
 pub returns-in-Make-clause-follows : goal.returns-in-Make-clause-follows
-returns-in-Make-clause-follows g c = with-request _ _ _ _ _ _ _ _ c.in-Make.is (with-files output_of _ _ _ _ _ (Ok c.make.result)
-    (λ _. given (make_given c.in-Make.code c.in-Make.p)) (reads_given output_of _ (Ok c.make.result) (make_given c.in-Make.code c.in-Make.p) c.make.ensures.given)
+returns-in-Make-clause-follows g c = with-request g.F.E.Eye.sight _ _ _ _ _ _ _ _ c.in-Make.is (with-reply g.F.E.Eye.sight _ _ _ _ _ (Ok c.make.result) (Ok (Reply c.make.result))
+    (λ _. given (make_given c.in-Make.code c.in-Make.p)) refl (reads_given output_of _ (Ok c.make.result) (make_given c.in-Make.code c.in-Make.p) c.make.ensures.given)
     (grows_given _ _ (Ok c.make.result) (make_given c.in-Make.code c.in-Make.p)))
 
 pub returns-in-Encode-clause-follows : goal.returns-in-Encode-clause-follows
-returns-in-Encode-clause-follows g c = with-request _ _ _ _ _ _ _ _ c.in-Encode.is (with-files output_of _ _ _ _ _ _
-    (λ contents. encode_answer contents c.in-Encode.matrix c.in-Encode.payload c.in-Encode.stripes c.in-Encode.bytes) c.encode.ensures.reads c.encode.ensures.totals)
+returns-in-Encode-clause-follows g c = with-request g.F.E.Eye.sight _ _ _ _ _ _ _ _ c.in-Encode.is (with-reply g.F.E.Eye.sight _ _ _ _ _ c.encode.result c.replied-in-Encode.result
+    (λ contents. encode_answer contents c.in-Encode.matrix c.in-Encode.payload c.in-Encode.stripes c.in-Encode.bytes) c.replied-in-Encode.ensures c.encode.ensures.reads c.encode.ensures.totals)
 
 pub returns-in-Rebuild-clause-follows : goal.returns-in-Rebuild-clause-follows
-returns-in-Rebuild-clause-follows g c = with-request _ _ _ _ _ _ _ _ c.in-Rebuild.is c.rebuild.ensures.follows
+returns-in-Rebuild-clause-follows g c = with-request g.F.E.Eye.sight _ _ _ _ _ _ _ _ c.in-Rebuild.is c.rebuild.ensures.follows
 
 pub returns-in-Convert-clause-follows : goal.returns-in-Convert-clause-follows
-returns-in-Convert-clause-follows g c = with-request _ _ _ _ _ _ _ _ c.in-Convert.is (with-files output_of _ _ _ _ _ _
-    (λ contents. convert_answer contents c.in-Convert.matrix c.in-Convert.image) c.convert.ensures.reads c.convert.ensures.totals)
+returns-in-Convert-clause-follows g c = with-request g.F.E.Eye.sight _ _ _ _ _ _ _ _ c.in-Convert.is (with-reply g.F.E.Eye.sight _ _ _ _ _ c.convert.result c.replied-in-Convert.result
+    (λ contents. convert_answer contents c.in-Convert.matrix c.in-Convert.image) c.replied-in-Convert.ensures c.convert.ensures.reads c.convert.ensures.totals)
+
+pub returns-in-Scrub-clause-follows : goal.returns-in-Scrub-clause-follows
+returns-in-Scrub-clause-follows g c = with-request g.F.E.Eye.sight _ _ _ _ _ _ _ _ c.in-Scrub.is (with-reply g.F.E.Eye.sight _ _ _ _ _ c.scrub.result c.replied-in-Scrub.result
+    (λ contents. scrub_answer contents c.in-Scrub.matrix c.in-Scrub.image) c.replied-in-Scrub.ensures c.scrub.ensures.reads c.scrub.ensures.totals)
 
 pub returns-in-Plan-clause-script_front : goal.returns-in-Plan-clause-script_front
 returns-in-Plan-clause-script_front g c = subst (λ s. ReadsFront (g.S.Source.left c.args.lent.now.script.now) (g.S.Source.left s) (script_limit + 1))
@@ -56,3 +62,7 @@ returns-in-Encode-clause-script_front g c = subst (λ s. ReadsFront (g.S.Source.
 pub returns-in-Convert-clause-script_front : goal.returns-in-Convert-clause-script_front
 returns-in-Convert-clause-script_front g c = subst (λ s. ReadsFront (g.S.Source.left c.args.lent.now.script.now) (g.S.Source.left s) (script_limit + 1))
     (sym c.convert.ensures.kept) (front_none _ _)
+
+pub returns-in-Scrub-clause-script_front : goal.returns-in-Scrub-clause-script_front
+returns-in-Scrub-clause-script_front g c = subst (λ s. ReadsFront (g.S.Source.left c.args.lent.now.script.now) (g.S.Source.left s) (script_limit + 1))
+    (sym c.scrub.ensures.kept) (front_none _ _)

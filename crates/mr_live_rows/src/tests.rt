@@ -1,0 +1,3 @@
+//! Reads that may be served beside the menders.
+
+mod rows;
