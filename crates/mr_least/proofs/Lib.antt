@@ -1,0 +1,3 @@
+pub mod Wanting
+pub mod HeadlineRight
+pub mod RunAnswers

@@ -1,0 +1,4 @@
+pub mod Choice
+pub mod Answer
+pub mod Headline
+pub mod Answers
