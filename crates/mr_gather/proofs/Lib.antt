@@ -1,0 +1,4 @@
+pub mod SlotLaws
+pub mod ArrayLaws
+pub mod StripeLaws
+pub mod SendLaws

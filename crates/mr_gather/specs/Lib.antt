@@ -1,0 +1,3 @@
+-- The words of arrays on device files.
+pub mod Arrays
+pub mod Slots
