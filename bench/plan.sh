@@ -37,7 +37,7 @@ measure() {
   awk -v name="$1" -v one="$(least 1)" -v four="$(least 4)" -v work="$4" -v line="$(cat "$folder/report")" \
     -v memory="$(memory 1 "$2" "$3")" -v memories="$(memory 4 "$2" "$3")" \
     'BEGIN {
-      printf "%-14s one worker %.4f s, %.0f work/s, %s KiB; four %.4f s, %s KiB; ratio %.2f; %s\n", \
+      printf "%-15s one worker %.4f s, %.0f work/s, %s KiB; four %.4f s, %s KiB; ratio %.2f; %s\n", \
         name, one / 1e9, work / (one / 1e9), memory, four / 1e9, memories, four / one, line
     }'
 }
@@ -49,3 +49,5 @@ measure "RDP 11" examples/rdp11.matrix 33554432 33554432
 measure "priced RDP 7" bench/priced-rdp7.matrix 4194304 51584
 # 20 devices of 4 symbols and 64 columns: each bit by Python's `random.seed(20)` and `random.choice('01')`, row by row
 measure "random 20x4" bench/random-20x4.matrix 33554432 33554432
+# the same of 67 columns by `random.seed(12)`: its search ends
+measure "random 20x4x67" bench/random-20x4x67.matrix 33554432 23432704
