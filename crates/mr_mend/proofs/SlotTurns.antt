@@ -70,6 +70,7 @@ module _ (l : Layout) (plans : List PlanParts) (singles : List SinglesOf) (asks 
       let whole = take_all i start all in
       record {
         numbers = same_numbers start now r.size r.numbers;
+        room = r.room;
         served = λ k d lt. r.served k d (omega (arith, r.size, lt, all)) (omega (arith, r.size, lt));
         least = omega (arith, r.least, ap (sum_by (λ (s : Slot). least_bytes l plans (ask_at asks s.number))) whole);
         most = omega (arith, r.most, ap (sum_by (λ (s : Slot). most_bytes l plans singles (ask_at asks s.number))) whole);

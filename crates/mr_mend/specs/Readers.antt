@@ -119,11 +119,12 @@ abbrev pub IsServed : Layout → List PlanParts → List SinglesOf → List Ask 
 IsServed l plans singles asks told slot = IfSome told (λ bytes.
     IsLawful l plans singles (image_of l bytes) (ask_at asks slot.number) slot.bytes.items)
 
--- Each slot was served, and has the number that it had. Between the two counts of bytes taken lie at least and at most the
--- bytes that lawful replies are read by.
+-- Each slot was served, and has the number that it had and the bytes of one symbol. Between the two counts of bytes taken
+-- lie at least and at most the bytes that lawful replies are read by.
 pub record HasRead (l : Layout) (plans : List PlanParts) (singles : List SinglesOf) (asks : List Ask)
     (told : Option (List ℕ)) (start now : List Slot) (before after : ℕ) : Type 0 where
   pub numbers : map (λ (slot : Slot). slot.number) now ≡ map (λ (slot : Slot). slot.number) start
+  pub room : All (IsSlotFor l asks) now
   pub served : All (IsServed l plans singles asks told) now
   pub least : counted before
       (sum_by (λ (slot : Slot). least_bytes l plans (ask_at asks slot.number)) start) ≤ after

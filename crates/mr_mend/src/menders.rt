@@ -107,8 +107,7 @@ fn word_at(bytes: &[u8], index: usize) -> u64
 
 /// Draws stripes and rebuilds each, until none is left or a read fails. It passes the gate at `Drawn` and at `Done` of each.
 pub(crate) fn mend_drawn<E: Eye, G: Gate>(
-    task: &Task,
-    gate: &G,
+    task: &Task<G>,
     pass: &mut Pass,
     eye: &mut E,
     room: &mut Room,
@@ -131,7 +130,7 @@ pub(crate) fn mend_drawn<E: Eye, G: Gate>(
 {
     while let Some(claim) = task.board.draw(pass) {
         let stripe = claim.stripe();
-        gate.pass(Point::Drawn { stripe });
+        task.gate.pass(Point::Drawn { stripe });
         rebuild_one(
             task.board,
             pass,
@@ -142,7 +141,7 @@ pub(crate) fn mend_drawn<E: Eye, G: Gate>(
             task.kernel,
             room,
         )?;
-        gate.pass(Point::Done { stripe });
+        task.gate.pass(Point::Done { stripe });
     }
     Ok(())
 }

@@ -56,16 +56,16 @@ pub fn mend<T: Threads + Sync, E: Eye + Send, G: Gate + Sync>(
         singles,
         asks,
         kernel,
+        gate,
     };
-    work_all(rt, &task, gate, workers);
+    work_all(rt, &task, workers);
     outcome(workers)
 }
 
 /// Each worker works, in a thread of its own.
 fn work_all<T: Threads + Sync, E: Eye + Send, G: Gate + Sync>(
     rt: &T,
-    task: &Task,
-    gate: &G,
+    task: &Task<G>,
     workers: &mut [Worker<E>],
 )
     requires plans { AreMendable task.now.head.now task.now.plans.now }
@@ -91,7 +91,7 @@ fn work_all<T: Threads + Sync, E: Eye + Send, G: Gate + Sync>(
                 ensures { HasEnded E.sight E.faults task.entry.now.board.now
                     task.entry.now.head.now task.entry.now.plans.now task.entry.now.singles.now
                     task.entry.now.asks.now worker.old worker.new }
-            { worker.work(task, gate) },
+            { worker.work(task) },
         );
     }
 }

@@ -99,8 +99,7 @@ fn level_of(recipes: &[Recipe], symbol: u8) -> Option<u8>
 
 /// Serves the ask of a slot. It passes the gate at `ReadBegin` and at `ReadEnd` of that ask.
 fn serve_slot<E: Eye, G: Gate>(
-    task: &Task,
-    gate: &G,
+    task: &Task<G>,
     pass: &mut Pass,
     eye: &mut E,
     slot: &mut Slot,
@@ -130,7 +129,7 @@ fn serve_slot<E: Eye, G: Gate>(
     ensures cause { HasCause (E.faults eye.old) (E.faults eye.new) result }
 {
     let number = slot.number;
-    gate.pass(Point::ReadBegin { number });
+    task.gate.pass(Point::ReadBegin { number });
     let ask = task.asks[number as usize];
     serve(
         task.board,
@@ -144,14 +143,13 @@ fn serve_slot<E: Eye, G: Gate>(
         slot.bytes.as_mut_slice(),
         tmp,
     )?;
-    gate.pass(Point::ReadEnd { number });
+    task.gate.pass(Point::ReadEnd { number });
     Ok(())
 }
 
 /// Serves the asks of the slots in their order, until all are served or a read fails.
 pub(crate) fn serve_slots<E: Eye, G: Gate>(
-    task: &Task,
-    gate: &G,
+    task: &Task<G>,
     pass: &mut Pass,
     eye: &mut E,
     slots: &mut [Slot],
@@ -175,7 +173,7 @@ pub(crate) fn serve_slots<E: Eye, G: Gate>(
     ensures cause { HasCause (E.faults eye.old) (E.faults eye.new) result }
 {
     for slot in slots.iter_mut() {
-        serve_slot(task, gate, pass, eye, slot, tmp)?;
+        serve_slot(task, pass, eye, slot, tmp)?;
     }
     Ok(())
 }

@@ -7,7 +7,7 @@ use mr_plan::Plans;
 
 /// What all workers of a rebuild go by.
 #[derive(Drop)]
-pub(crate) struct Task<'a> {
+pub(crate) struct Task<'a, G> {
     /// The board on which they meet.
     pub board: &'a Board,
     /// The head of the image.
@@ -20,4 +20,6 @@ pub(crate) struct Task<'a> {
     pub asks: &'a [Ask],
     /// The kernel that adds bytes.
     pub kernel: &'a XorKernel,
+    /// The gate that they pass.
+    pub gate: &'a G,
 }

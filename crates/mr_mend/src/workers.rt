@@ -132,7 +132,7 @@ impl<E: Eye> Worker<E> {
     }
 
     /// Works until all is done, or a read fails.
-    pub(crate) fn work<G: Gate>(&mut self, task: &Task, gate: &G)
+    pub(crate) fn work<G: Gate>(&mut self, task: &Task<G>)
         requires plans { AreMendable task.now.head.now task.now.plans.now }
         requires asks { All (IsInRange task.now.head.now) task.now.asks.now }
         requires ready { CanWork task.now.head.now task.now.plans.now task.now.singles.now
@@ -142,12 +142,11 @@ impl<E: Eye> Worker<E> {
     {
         match &mut self.role {
             Role::Mender { room } => {
-                self.failed = mend_drawn(task, gate, &mut self.pass, &mut self.eye, room).is_err();
+                self.failed = mend_drawn(task, &mut self.pass, &mut self.eye, room).is_err();
             }
             Role::Reader { slots, tmp } => {
                 self.failed = serve_slots(
                     task,
-                    gate,
                     &mut self.pass,
                     &mut self.eye,
                     slots.as_mut_slice(),
