@@ -44,8 +44,10 @@ pub fn copy_survivors<E: Eye>(
     Ok(())
 }
 
-/// Reads the symbols of a set to their places in one stripe, each run of neighbours at once.
-fn copy_stripe<E: Eye>(
+/// Reads the symbols of a set to their places in one stripe of `image`, which has the bytes of the whole file.
+///
+/// Each run of neighbours is one read. It takes no memory. A read that fails is answered at once.
+pub fn copy_stripe<E: Eye>(
     eye: &mut E,
     head: &ImageHead,
     set: Mask,

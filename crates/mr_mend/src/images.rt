@@ -55,8 +55,15 @@ pub fn mend_all<E: Eye>(
     Ok(())
 }
 
-/// Puts the symbols of the recipes, which stand in their order, to their places in one stripe.
-fn put_symbols(head: &ImageHead, recipes: &[Recipe], stripe: u32, symbols: &[u8], image: &mut [u8])
+/// Puts the symbols of the recipes, which stand in their order, to their places in one stripe of `image`, which has the
+/// bytes of the whole file.
+pub fn put_symbols(
+    head: &ImageHead,
+    recipes: &[Recipe],
+    stripe: u32,
+    symbols: &[u8],
+    image: &mut [u8],
+)
     requires stripe { stripe < head.now.stripes }
     requires in_range { All (λ (r : RecipeOf). r.symbol < stripe_symbols head.now) recipes.now }
     requires upwards { IsUpwards (map (λ (r : RecipeOf). r.symbol) recipes.now) }

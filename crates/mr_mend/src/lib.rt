@@ -23,14 +23,14 @@ mod tasks;
 mod workers;
 
 pub use asks::{Ask, ScriptFault};
-pub use copies::copy_survivors;
+pub use copies::{copy_stripe, copy_survivors};
 pub use degraded::near;
-pub use images::mend_all;
+pub use images::{mend_all, put_symbols};
 pub use limits::{GATHERED, LINE_FRAME, REPLY_LIMIT, SCRIPT_LIMIT};
 pub use menders::rebuild_one;
 pub use mending::mend;
 pub use readers::serve;
-pub use rebuilding::{RebuildRoom, Rebuilt, rebuild};
+pub use rebuilding::{RebuildRoom, Rebuilt, print_head, rebuild};
 pub use rebuilds::Rebuild;
 pub use replies::print_replies;
 pub use rooms::Room;

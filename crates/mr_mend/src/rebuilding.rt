@@ -161,8 +161,8 @@ pub fn rebuild<E: Eye>(
     })
 }
 
-/// Makes the first bytes the head.
-fn print_head(head: &ImageHead, image: &mut [u8])
+/// Makes the first bytes of `image`, which has the bytes of the whole file, the head.
+pub fn print_head(head: &ImageHead, image: &mut [u8])
     requires { length image.old ≡ file_bytes head.now }
     ensures { take HEAD_BYTES image.new ≡ head_bytes head.now }
 {
