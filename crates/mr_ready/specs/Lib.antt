@@ -6,4 +6,10 @@ pub mod Reads
 pub mod Reports
 pub mod Writing
 pub mod Written
+pub mod Lent
+pub mod Joining
+pub mod Crews
+pub mod Desks
+pub mod Placing
+pub mod Replying
 pub mod Carrying

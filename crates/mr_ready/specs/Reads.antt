@@ -51,3 +51,16 @@ most_reads order = record no_bytes {
   live = most_replying_reads order;
   copy = copying_reads order.head order.plans;
 }
+
+-- the least bytes that the workers take, and the most: without `live` they serve no reads
+abbrev pub least_beside : OrderParts → Totals
+least_beside order = record no_bytes {
+  mend = mending_reads order.head order.plans;
+  live = if order.live then replying_reads order else 0;
+}
+
+abbrev pub most_beside : OrderParts → Totals
+most_beside order = record no_bytes {
+  mend = mending_reads order.head order.plans;
+  live = if order.live then most_replying_reads order else 0;
+}

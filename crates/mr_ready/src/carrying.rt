@@ -11,6 +11,7 @@ ghost use Rattle.mr_steps.specs.Sinks.{IsReported};
 ghost use Rattle.mr_ready.specs.Writing.{WritesAll, WritesFront};
 
 use crate::faults::CarryFault;
+use crate::means::Means;
 use crate::reading::{Read, read_image};
 use crate::ready::Ready;
 use crate::writing::write_rebuilt;
@@ -69,10 +70,15 @@ pub fn carry<T: Threads + Sync, E: Eye + Send, O: Sink, R: Sink, G: Gate + Sync>
     ensures out_quiet { OnOk result.result (O.faults out.new ≡ O.faults out.old) }
     ensures report_quiet { OnOk result.result (R.faults report.new ≡ R.faults report.old) }
 {
-    let Ready { order, eyes, room } = ready;
-    let Read { eyes, rebuilt } = read_image(&order, kernel, eyes, room);
-    match rebuilt {
-        Ok(mut rebuilt) => match write_rebuilt(&order, &mut rebuilt, out, report) {
+    let Ready {
+        order,
+        crew,
+        buffers,
+    } = ready;
+    let means = Means { rt, gate, kernel };
+    let Read { eyes, made } = read_image(&means, &order, crew, buffers);
+    match made {
+        Ok(mut made) => match write_rebuilt(&order, &mut made, out, report) {
             Ok(()) => Carried {
                 eyes,
                 result: Ok(()),

@@ -3,12 +3,19 @@
 #![tactic(auto)]
 
 mod asking;
+mod buffers;
 mod carrying;
+mod crews;
+mod desks;
 mod faults;
+mod gathering;
+mod means;
 mod orders;
+mod placing;
 mod printing;
 mod reading;
 mod ready;
+mod replying;
 mod writing;
 
 pub use carrying::{Carried, carry};

@@ -13,11 +13,13 @@ ghost use Rattle.mr_ready.specs.Duties.{duties_of, eyes_on};
 ghost use Rattle.mr_ready.specs.Lawful.{AreSinglesFor};
 
 use crate::asking::{duties_for, lend_eyes};
+use crate::buffers::{Buffers, make_buffers};
+use crate::crews::{Crew, hire};
 use crate::orders::Order;
 use mr_eq::Singles;
 use mr_image::ImageHead;
-use mr_io::{Eye, Files, FilesError};
-use mr_mend::{Ask, RebuildRoom};
+use mr_io::{Eye, Files, FilesError, retire_all};
+use mr_mend::Ask;
 use mr_plan::Plans;
 use mr_steps::ChoiceLine;
 use std::alloc::Global;
@@ -27,8 +29,8 @@ use std::alloc::Global;
 pub struct Ready<E> {
     /// What is to be rebuilt.
     pub order: Order,
-    pub(crate) eyes: Vec<E>,
-    pub(crate) room: RebuildRoom,
+    pub(crate) crew: Crew<E>,
+    pub(crate) buffers: Buffers,
 }
 
 impl<E: Eye + Send> Ready<E> {
@@ -91,12 +93,22 @@ impl<E: Eye + Send> Ready<E> {
             workers,
             live,
         };
-        let Ok(room) = RebuildRoom::new(alloc, &order.head, &order.plans, &order.asks) else {
+        let Ok(buffers) = make_buffers(alloc, &order.head, &order.asks) else {
             return Err(FilesError::Memory);
         };
         let duties = duties_for(alloc, workers, live)?;
         match lend_eyes(alloc, files, image, &duties) {
-            Ok(eyes) => Ok(Ready { order, eyes, room }),
+            Ok(eyes) => match hire(alloc, &order, eyes) {
+                Ok(crew) => Ok(Ready {
+                    order,
+                    crew,
+                    buffers,
+                }),
+                Err(eyes) => {
+                    retire_all(files, eyes);
+                    Err(FilesError::Memory)
+                }
+            },
             Err(refused) => Err(refused),
         }
     }

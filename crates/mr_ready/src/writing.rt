@@ -4,32 +4,32 @@ ghost use Rattle.std.specs.Prelude.{◌≡◌, ◌≤◌, ◌⊎◌, Ok, OnErr, 
 ghost use Rattle.mr_image.specs.Rotated.{rotations};
 ghost use Rattle.mr_io.specs.Counts.{Rose};
 ghost use Rattle.mr_io.specs.Taking.{Takes};
-ghost use Rattle.mr_ready.specs.Written.{HasRoom, output_of};
+ghost use Rattle.mr_ready.specs.Written.{AreBuffers, output_of};
 ghost use Rattle.mr_steps.specs.Sinks.{IsReported, Reports, TakesFront};
 
+use crate::buffers::Buffers;
 use crate::orders::Order;
 use crate::printing::print_report;
 use mr_io::{Failed, Sink, put_all};
-use mr_mend::Rebuilt;
 use mr_steps::{Fault, refuse};
 
 /// Writes the image to `out`, and then the report. Where `out` fails the line of a failed write goes to `report` in
 /// place of its own text. Takes no memory.
 pub(crate) fn write_rebuilt<O: Sink, R: Sink>(
     order: &Order,
-    rebuilt: &mut Rebuilt,
+    buffers: &mut Buffers,
     out: &mut O,
     report: &mut R,
 ) -> Result<(), Failed>
     requires lines { length order.now.lines.items ≡ rotations order.now.head }
-    requires room { HasRoom order.now.head order.now.asks.items rebuilt.old }
+    requires buffers { AreBuffers order.now.head order.now.asks.items buffers.old }
     ensures written { OnOk result
-        (Takes (O.held out.old) (O.held out.new) (output_of order.now rebuilt.old).out
-        × Takes (R.held report.old) (R.held report.new) (output_of order.now rebuilt.old).report) }
+        (Takes (O.held out.old) (O.held out.new) (output_of order.now buffers.old).out
+        × Takes (R.held report.old) (R.held report.new) (output_of order.now buffers.old).report) }
     ensures cut { OnErr result
-        (TakesFront (O.held out.old) (O.held out.new) (output_of order.now rebuilt.old).out) }
+        (TakesFront (O.held out.old) (O.held out.new) (output_of order.now buffers.old).out) }
     ensures reported { OnErr result
-        (Reports 10 (Ok (output_of order.now rebuilt.old)) (O.held out.old) (O.held out.new)
+        (Reports 10 (Ok (output_of order.now buffers.old)) (O.held out.old) (O.held out.new)
         (R.held report.old) (R.held report.new)
         (Rose (R.faults report.old) (R.faults report.new))) }
     ensures line { OnErr result (IsReported 10 (R.held report.old) (R.held report.new)
@@ -41,8 +41,8 @@ pub(crate) fn write_rebuilt<O: Sink, R: Sink>(
     ensures out_quiet { OnOk result (O.faults out.new ≡ O.faults out.old) }
     ensures report_quiet { OnOk result (R.faults report.new ≡ R.faults report.old) }
 {
-    match put_all(out, &rebuilt.image) {
-        Ok(()) => match print_report(order, &rebuilt.replies, &mut rebuilt.line, report) {
+    match put_all(out, &buffers.image) {
+        Ok(()) => match print_report(order, &buffers.replies, &mut buffers.line, report) {
             Ok(()) => Ok(()),
             Err(_) => Err(Failed),
         },
