@@ -6,7 +6,7 @@ use mr_runs::{Case, Given, LEAST, REBUILD, Trial, run_by};
 use std::test::Fail;
 
 /// Three reads, of which the first and the last are of one lost symbol, and the replies.
-const THREE: Case = Case {
+pub(crate) const THREE: Case = Case {
     script: Text("0 0\n0 3\n0 0\n"),
     report: "plan 1 least
 set 3 5 6
