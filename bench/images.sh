@@ -32,3 +32,16 @@ timed() {
 
 # NAME: the least of its times
 least() { sort -n "$folder/$1.ns" | head -n 1; }
+
+# WHOLE IMAGE STRIPES BYTES LOST: the file IMAGE, which is WHOLE with the first LOST symbols of each stripe overwritten
+overwritten() {
+  python3 - "$1" "$2" "$3" $((symbols * $4)) $(($5 * $4)) <<'PY'
+import sys
+whole, image, stripes, stripe, lost = sys.argv[1], sys.argv[2], *map(int, sys.argv[3:])
+data = bytearray(open(whole, 'rb').read())
+for s in range(stripes):
+    at = 32 + s * stripe
+    data[at:at + lost] = b'\xff' * lost
+open(image, 'wb').write(data)
+PY
+}

@@ -14,15 +14,7 @@ read=$((stripes * 12 * bytes))
 image whole "$stripes" "$bytes"
 "$program" convert "$matrix" "$folder/whole" >"$folder/turned"
 for name in whole turned; do
-  python3 - "$folder/$name" "$folder/$name.lost" $stripes $((symbols * bytes)) $((lost * bytes)) <<'PY'
-import sys
-whole, image, stripes, stripe, lost = sys.argv[1], sys.argv[2], *map(int, sys.argv[3:])
-data = bytearray(open(whole, 'rb').read())
-for s in range(stripes):
-    at = 32 + s * stripe
-    data[at:at + lost] = b'\xff' * lost
-open(image, 'wb').write(data)
-PY
+  overwritten "$folder/$name" "$folder/$name.lost" "$stripes" "$bytes" "$lost"
 done
 
 copy_and_read() {

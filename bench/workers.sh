@@ -10,15 +10,7 @@ bytes=4096
 lost=4
 
 image whole "$stripes" "$bytes"
-python3 - "$folder/whole" "$folder/image" $stripes $((symbols * bytes)) $((lost * bytes)) <<'PY'
-import sys
-whole, image, stripes, stripe, lost = sys.argv[1], sys.argv[2], *map(int, sys.argv[3:])
-data = bytearray(open(whole, 'rb').read())
-for s in range(stripes):
-    at = 32 + s * stripe
-    data[at:at + lost] = b'\xff' * lost
-open(image, 'wb').write(data)
-PY
+overwritten "$folder/whole" "$folder/image" "$stripes" "$bytes" "$lost"
 for s in $(seq 0 $((stripes - 1))); do echo "$s $((s % lost))"; done >"$folder/asks"
 
 # NAME SCRIPT WORDS..: times a rebuild, whose image has to be the whole one
