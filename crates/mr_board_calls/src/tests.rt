@@ -1,4 +1,4 @@
-//! Boards whose passes take turns, and a stripe that is given up.
+//! Boards whose passes take turns, a stripe that is given up, and a worker that wants for memory.
 
 ghost use Rattle.std.specs.Prelude.{◌≡◌, IfOk};
 ghost use Rattle.mr_board.specs.Views.{first_view};
@@ -10,6 +10,7 @@ use crate::images::{Blind, PLAN, datum};
 use mr_bits::Shape;
 use mr_board::{Board, Pass};
 use mr_image::ImageHead;
+use mr_mend::{Worker, WorkerRefused};
 use mr_plan::{Plan, Plans};
 use std::alloc::Global;
 use std::process::Abort;
@@ -94,5 +95,36 @@ fn given_up(rt: HostRuntime) -> Result<(), Fail> {
     board.join(&mut first, second);
     let later = board.look(&mut first, 1);
     assert!(&rt; drawn == [0, 1] && !before && after && is_last && !undone && !later);
+    Ok(())
+}
+
+/// A worker's pass and eye come back, also where the worker wanted for memory (by `rt try --test --fail-alloc N` the
+/// allocation of number N is refused).
+#[test]
+fn handed_back(rt: HostRuntime) -> Result<(), Fail> {
+    let shape = Shape::new(4, 2, 4).expect(&rt, "the numbers are within the limits");
+    let head = ImageHead::new(shape, 8, 2).expect(&rt, "the image is within the limits");
+    let plan = Plan::read(PLAN).expect(&rt, "the text is a plan");
+    // (what the test takes may be refused as well)
+    let alloc = rt.alloc();
+    let Ok(list) = vec![in alloc; plan] else {
+        return Ok(());
+    };
+    let plans = Plans::new(list);
+    let Ok((board, pass)) = Board::new(alloc, &Blind { faults: 0 }, &head, &plans) else {
+        return Ok(());
+    };
+    let handed = Worker::mender(alloc, pass, Blind { faults: 7 }, &head, &plans);
+    let (mut pass, eye) = match handed {
+        Ok(worker) => worker.into_parts(),
+        Err(WorkerRefused { pass, eye }) => (pass, eye),
+    };
+    assert_eq!(&rt; eye.faults, 7);
+    let Some(claim) = board.draw(&mut pass) else {
+        panic!(&rt; "no stripe is left")
+    };
+    let stripe = claim.stripe();
+    board.give_up(&mut pass, claim);
+    assert_eq!(&rt; stripe, 0);
     Ok(())
 }

@@ -2,6 +2,7 @@
 
 mod choices;
 mod drills;
+mod memory;
 mod near;
 mod search;
 mod values;

@@ -1,14 +1,12 @@
 -- The bytes of a file are its head and its symbols: a file with a head and the symbols of an image is the file of that image.
-use Rattle.std.proofs.Common.{◌≡◌, ℕ, ◌<◌, Bool, true, false, List, ◌++◌, take, drop, length, Option, Some, None, refl, sym, subst, ◌∙◌}
+use Rattle.std.proofs.Common.{◌≡◌, ℕ, ◌<◌, Bool, true, false, List, ◌++◌, take, drop, length, Option, Some, None, refl, ◌∙◌}
 use Rattle.std.specs.Prelude.{is_some, IfSome}
 use Rattle.std.proofs.lemmas.List.{take_at}
 use Rattle.mr_model.specs.Plans.{Recipe}
 use Rattle.mr_image.specs.Images.{Layout, Image, stripe_symbols, image_of, stripe_of, equation_of, rebuilt, mended}
 use Rattle.mr_image.specs.Heads.{head_bytes, file_bytes}
 use Rattle.mr_image.proofs.FileLaws.{file-is}
-use Rattle.mr_mend.specs.declared.asks.Ask.{Ask}
 use Rattle.mr_mend.specs.Mending.{has_recipe, HoldsMended, HoldsCopies, KeepsMended, mended_file}
-use Rattle.mr_mend.specs.Serving.{reply_bytes}
 
 -- ---- a rebuilt file
 
@@ -33,26 +31,6 @@ module _ (l : Layout) (recipes : ℕ → List Recipe) (start mended_only bytes :
       go : (s i : ℕ) → s < l.stripes → i < stripe_symbols l → (b : Bool) → has_recipe (recipes s) i ≡ b → image_of l bytes s i ≡ mended l recipes (image_of l told) s i
       go s i here low true e = keeps.same s i here low e ∙ holds.same s i here low e
       go s i here low false e = copies.same s i here low e ∙ mended-without l recipes (image_of l told) s i e
-
-  -- so it is where two eyes tell one file
-  pub rebuilt-told : (mend copy : Option (List ℕ)) → length bytes ≡ file_bytes l → take 32 start ≡ head_bytes l → take 32 mended_only ≡ take 32 start
-      → IfSome mend (λ first. HoldsMended l recipes (image_of l first) mended_only) → KeepsMended l recipes mended_only bytes → IfSome copy (λ second. HoldsCopies l recipes (image_of l second) bytes)
-      → IfSome mend (λ first. copy ≡ Some first → bytes ≡ mended_file l recipes first)
-  rebuilt-told mend copy long head front holds keeps copies = go mend holds
-    where
-      go : (o : Option (List ℕ)) → IfSome o (λ first. HoldsMended l recipes (image_of l first) mended_only) → IfSome o (λ first. copy ≡ Some first → bytes ≡ mended_file l recipes first)
-      go None h = tt
-      go (Some first) h = λ same. rebuilt-is first long head front h keeps (subst (λ o. IfSome o (λ second. HoldsCopies l recipes (image_of l second) bytes)) same copies)
-
--- the replies that are taken from the buffer of the output, where two eyes tell one file
-pub replied-told : (l : Layout) (recipes : ℕ → List Recipe) (asks : List Ask) (made served replies : List ℕ) (mend live : Option (List ℕ)) → served ≡ made
-    → IfSome mend (λ first. HoldsMended l recipes (image_of l first) made)
-    → IfSome live (λ second. HoldsMended l recipes (image_of l second) served → replies ≡ reply_bytes (mended l recipes (image_of l second)) asks)
-    → IfSome mend (λ first. live ≡ Some first → replies ≡ reply_bytes (mended l recipes (image_of l first)) asks)
-replied-told l recipes asks made served replies None live same holds replied = tt
-replied-told l recipes asks made served replies (Some first) live same holds replied = λ told.
-    subst (λ o. IfSome o (λ second. HoldsMended l recipes (image_of l second) served → replies ≡ reply_bytes (mended l recipes (image_of l second)) asks)) told replied
-    (subst (HoldsMended l recipes (image_of l first)) (sym same) holds)
 
 -- a vector after all of it was written as a slice
 pub rejoined : (len : ℕ) (written before : List ℕ) → length written ≡ len → take len (written ++ drop (length written) before) ≡ written

@@ -7,12 +7,10 @@ use Rattle.mr_model.specs.Plans.{Recipe}
 use Rattle.mr_model.specs.Search.{sum_below}
 use Rattle.mr_kern.specs.Xor.{xor_bytes}
 use Rattle.mr_image.specs.Images.{Layout, stripe_symbols, Image, image_of, equation_of, mended}
-use Rattle.mr_image.specs.Heads.{file_bytes, image_bytes}
+use Rattle.mr_image.specs.Heads.{image_bytes}
 use Rattle.mr_image.specs.declared.limits.TheConstants.{HEAD_BYTES}
 use Rattle.mr_plan.specs.Plans.{PlanParts}
-use Rattle.mr_plan.specs.PlanLists.{plan_at, recipes_at}
-use Rattle.mr_mend.specs.declared.asks.Ask.{Ask}
-use Rattle.mr_mend.specs.Replies.{lines_room}
+use Rattle.mr_plan.specs.PlanLists.{plan_at}
 
 -- ---- what is asked
 
@@ -115,21 +113,3 @@ mended_file l recipes bytes = image_bytes l (mended l recipes (image_of l bytes)
 -- the members of the sets of the first n stripes, counted in each stripe
 abbrev pub members_read : List PlanParts → ℕ → ℕ
 members_read plans n = sum_below n (λ s. length (members (plan_at plans s).set))
-
--- how many bytes there are for the whole file, for one symbol, for the rebuilt symbols of a stripe, for all replies, and
--- for the lines of replies that are gathered
-pub record RoomSizes : Type 0 where
-  pub image : ℕ
-  pub buf : ℕ
-  pub lost : ℕ
-  pub replies : ℕ
-  pub line : ℕ
-
--- there is room for the layout, the plans and the asks
-pub record IsRoomFor (l : Layout) (plans : List PlanParts) (asks : List Ask) (room : RoomSizes)
-    : Type 0 where
-  pub image : room.image ≡ file_bytes l
-  pub buf : room.buf ≡ l.symbol_bytes
-  pub lost : room.lost ≡ length (recipes_at plans 0) * l.symbol_bytes
-  pub replies : room.replies ≡ length asks * l.symbol_bytes
-  pub line : room.line ≡ lines_room l

@@ -9,7 +9,7 @@ use Rattle.mr_ready.specs.Crews.{IsCrew, eyes_of}
 use Rattle.mr_ready.specs.Lawful.{AreSinglesFor}
 use Rattle.mr_ready.specs.Lent.{AreLent, told_by}
 use Rattle.mr_ready.specs.Orders.{parts_of_order}
-use Rattle.mr_ready.specs.Written.{AreBuffers}
+use Rattle.mr_ready.specs.Written.{HaveRoom}
 use Rattle.mr_ready.specs.declared.ready.Ready.{Ready}
 
 -- what the eyes of a rebuild tell of the image
@@ -31,4 +31,4 @@ pub record CanCarry {E : Type 0} (sight : E → Sight) (faults : E → ℕ) (rea
   pub crew : IsCrew sight (parts_of_order ready.order) ready.crew
   pub eyes : AreLent sight faults (image_told sight ready) ready.order.workers ready.order.live
       (eyes_of ready.crew)
-  pub buffers : AreBuffers ready.order.head ready.order.asks.items ready.buffers
+  pub buffers : HaveRoom ready.order.head ready.order.asks.items ready.buffers

@@ -1,7 +1,7 @@
 //! The memory of what a rebuild makes.
 
 ghost use Rattle.std.specs.Prelude.{IfOk};
-ghost use Rattle.mr_ready.specs.Written.{AreBuffers};
+ghost use Rattle.mr_ready.specs.Written.{HaveRoom};
 
 use mr_bits::NoMemory;
 use mr_image::ImageHead;
@@ -20,7 +20,8 @@ pub(crate) struct Buffers {
     pub line: Vec<u8>,
 }
 
-/// The buffers of an image with this head and of these reads.
+/// The buffers of an image with this head and of these reads. That of the image has room for the bytes of the whole file, and
+/// is first touched beside the menders.
 ///
 /// It answers `NoMemory` also where the bytes of all replies are too many for a `usize`.
 pub(crate) fn make_buffers(
@@ -28,12 +29,12 @@ pub(crate) fn make_buffers(
     head: &ImageHead,
     asks: &[Ask],
 ) -> Result<Buffers, NoMemory>
-    ensures { IfOk result (AreBuffers head.now asks.now) }
+    ensures { IfOk result (HaveRoom head.now asks.now) }
 {
     let size = head.bytes() as usize;
     let reply_bytes = asks.len().checked_mul(size).ok_or(NoMemory)?;
     Ok(Buffers {
-        image: vec![in alloc; 0; head.file_bytes() as usize]?,
+        image: Vec::with_capacity(alloc, head.file_bytes() as usize)?,
         replies: vec![in alloc; 0; reply_bytes]?,
         line: vec![in alloc; 0; (2 * size + LINE_FRAME).max(GATHERED)]?,
     })

@@ -5,6 +5,7 @@
 mod asking;
 mod buffers;
 mod carrying;
+mod clearing;
 mod crews;
 mod desks;
 mod faults;

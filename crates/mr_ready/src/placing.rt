@@ -11,10 +11,8 @@ ghost use Rattle.mr_ready.specs.Placing.{IsBoardFor, PutsMended};
 
 use crate::orders::Order;
 use mr_board::{Board, Pass};
-use mr_image::{HEAD_BYTES, ImageHead};
-
-/// How many bytes the head has.
-const HEAD: usize = HEAD_BYTES as usize;
+use mr_image::HEAD_BYTES;
+use mr_mend::print_head;
 
 /// Makes the first bytes of `image` the head, and puts each symbol that has a recipe, mended, to its place. The pass saw
 /// each stripe done. It takes no memory.
@@ -30,19 +28,10 @@ pub(crate) fn put_mended(board: &Board, pass: &mut Pass, order: &Order, image: &
         image.new }
     ensures head { take HEAD_BYTES image.new ≡ head_bytes order.now.head }
 {
-    put_head(&order.head, image);
+    print_head(&order.head, image);
     for stripe in 0..order.head.stripes() {
         put_stripe(board, pass, order, stripe, image);
     }
-}
-
-/// Makes the first bytes the head.
-fn put_head(head: &ImageHead, image: &mut [u8])
-    requires { length image.old ≡ file_bytes head.now }
-    ensures { take HEAD_BYTES image.new ≡ head_bytes head.now }
-{
-    let bytes = head.print();
-    image[..HEAD].copy_from_slice(&bytes);
 }
 
 /// Puts the symbols of one stripe that have a recipe to their places.

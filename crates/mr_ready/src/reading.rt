@@ -18,16 +18,16 @@ ghost use Rattle.mr_ready.specs.Lent.{AreLent, told_by};
 ghost use Rattle.mr_ready.specs.Orders.{parts_of_order};
 ghost use Rattle.mr_ready.specs.Reads.{least_beside, least_reads, most_beside, most_reads};
 ghost use Rattle.mr_ready.specs.Replying.{AreLawful};
-ghost use Rattle.mr_ready.specs.Written.{AreBuffers};
+ghost use Rattle.mr_ready.specs.Written.{AreBuffers, HaveRoom};
 
 use crate::buffers::Buffers;
+use crate::clearing::mend_and_clear;
 use crate::crews::Crew;
 use crate::desks::{Desk, collect, finish, leave};
 use crate::means::Means;
 use crate::orders::Order;
 use crate::replying::put_replies;
 use mr_io::{Eye, Failed, Gate};
-use mr_mend::mend;
 use std::thread::Threads;
 
 /// The eyes, and what was made.
@@ -59,7 +59,7 @@ pub(crate) fn read_image<T: Threads + Sync, E: Eye + Send, G: Gate + Sync>(
     requires crew { IsCrew E.sight (parts_of_order order.now) crew }
     requires eyes { AreLent E.sight E.faults (told_by E.sight (eyes_of crew)) order.now.workers
         order.now.live (eyes_of crew) }
-    requires buffers { AreBuffers order.now.head order.now.asks.items buffers }
+    requires buffers { HaveRoom order.now.head order.now.asks.items buffers }
     ensures duties { map (λ eye. (E.sight eye).duty) result.eyes.items
         ≡ duties_of order.now.workers order.now.live }
     ensures took { OnOk result.made (TakesWithin (taken_by (map E.sight result.eyes.items))
@@ -73,7 +73,13 @@ pub(crate) fn read_image<T: Threads + Sync, E: Eye + Send, G: Gate + Sync>(
     ensures quiet { OnOk result.made (All (λ eye. E.faults eye ≡ 0) result.eyes.items) }
 {
     let mut buffers = buffers;
-    let (mut desk, mended) = mend_beside(means, order, crew, buffers.replies.as_mut_slice());
+    let (mut desk, mended) = mend_beside(
+        means,
+        order,
+        crew,
+        buffers.replies.as_mut_slice(),
+        &mut buffers.image,
+    );
     match mended {
         Ok(()) => match finish(order, means.kernel, &mut desk, &mut buffers) {
             Ok(()) => Read {
@@ -93,12 +99,13 @@ pub(crate) fn read_image<T: Threads + Sync, E: Eye + Send, G: Gate + Sync>(
 }
 
 /// The menders mend and, with `live`, the readers serve the reads beside them and their replies are put. `replies` has the
-/// bytes of one symbol for each read.
+/// bytes of one symbol for each read; `image` has room for the bytes of the whole file, and has so many afterwards.
 fn mend_beside<T: Threads + Sync, E: Eye + Send, G: Gate + Sync>(
     means: &Means<T, G>,
     order: &Order,
     crew: Crew<E>,
     replies: &mut [u8],
+    image: &mut Vec<u8>,
 ) -> (Desk<E>, Result<(), Failed>)
     requires plans { AreMendable order.now.head order.now.plans }
     requires singles { order.now.live ≡ true
@@ -113,6 +120,7 @@ fn mend_beside<T: Threads + Sync, E: Eye + Send, G: Gate + Sync>(
         order.now.live (eyes_of crew) }
     requires replies { length replies.old
         ≡ length order.now.asks.items * order.now.head.symbol_bytes }
+    requires image { file_bytes order.now.head ≤ vec_capacity image.old }
     ensures board { result.0.board ≡ crew.board }
     ensures pass { IsPassOf result.0.board result.0.pass }
     ensures others { option_to_list result.0.server ++ result.0.copier ∷ []
@@ -128,20 +136,17 @@ fn mend_beside<T: Threads + Sync, E: Eye + Send, G: Gate + Sync>(
         → 0 < times t (pass_view result.0.pass).seen) }
     ensures replies { OnOk result.1 (order.now.live ≡ true → AreLawful (parts_of_order order.now)
         (told_by E.sight (eyes_of crew)) replies.new) }
+    ensures image { length image.new.items ≡ file_bytes order.now.head }
     ensures quiet { OnOk result.1 (All (λ eye. E.faults eye ≡ 0) result.0.eyes.items) }
     ensures cause { OnErr result.1 (Any (λ eye. Rose 0 (E.faults eye)) result.0.eyes.items) }
 {
     let mut crew = crew;
-    let mended = mend(
-        means.rt,
-        crew.workers.as_mut_slice(),
+    let mended = mend_and_clear(
+        means,
+        order,
         &crew.board,
-        &order.head,
-        &order.plans,
-        order.singles.as_slice(),
-        order.asks.as_slice(),
-        means.kernel,
-        means.gate,
+        crew.workers.as_mut_slice(),
+        image,
     );
     match mended {
         Ok(()) => {

@@ -10,7 +10,7 @@ put_stripe-requires-clause-seen c =
 
 pub loop-stripe-preserved : goal.loop-stripe-preserved
 loop-stripe-preserved c = (
-  holds-turn c.args.board.now c.args.order.now.head c.args.order.now.plans c.loop-stripe.stripe c.put_head.new.image c.loop-stripe.image c.put_stripe.new.image c.loop-stripe.invariant.0 c.put_stripe.ensures.put,
+  holds-turn c.args.board.now c.args.order.now.head c.args.order.now.plans c.loop-stripe.stripe c.print_head.new.image c.loop-stripe.image c.put_stripe.new.image c.loop-stripe.invariant.0 c.put_stripe.ensures.put,
   c.put_stripe.ensures.pass,
   c.put_stripe.ensures.same ∙ c.loop-stripe.invariant.2,
 )

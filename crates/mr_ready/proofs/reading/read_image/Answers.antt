@@ -35,7 +35,7 @@ finish-requires-clause-copier g c =
 
 pub finish-requires-clause-buffers : goal.finish-requires-clause-buffers
 finish-requires-clause-buffers g c =
-    record { image = c.requires.buffers.image; replies = ap length (rejoined-all c.args.buffers.replies.len c.mend_beside-desk.new.replies c.args.buffers.replies.items (c.mend_beside-desk.auto.replies ∙ c.as_mut_slice.ensures.len)) ∙ c.mend_beside-desk.auto.replies ∙ ap length c.as_mut_slice.ensures.value ∙ c.requires.buffers.replies; line = c.requires.buffers.line }
+    record { image = c.mend_beside-desk.ensures.image; replies = ap length (rejoined-all c.args.buffers.replies.len c.mend_beside-desk.new.replies c.args.buffers.replies.items (c.mend_beside-desk.auto.replies ∙ c.as_mut_slice.ensures.len)) ∙ c.mend_beside-desk.auto.replies ∙ ap length c.as_mut_slice.ensures.value ∙ c.requires.buffers.replies; line = c.requires.buffers.line }
 
 pub returns-in-Ok-finish-clause-duties : goal.returns-in-Ok-finish-clause-duties
 returns-in-Ok-finish-clause-duties g c =

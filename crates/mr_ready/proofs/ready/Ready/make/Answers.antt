@@ -6,7 +6,7 @@ use Rattle.mr_image.specs.Heads.{file_bytes}
 use Rattle.mr_io.specs.Telling.{AsksFront, told_returning}
 use Rattle.mr_ready.specs.Duties.{duties_of, eyes_on}
 use Rattle.mr_ready.specs.Lent.{AreLent, told_by}
-use Rattle.mr_ready.specs.Written.{AreBuffers}
+use Rattle.mr_ready.specs.Written.{HaveRoom}
 use Rattle.mr_ready.proofs.CarryLaws.{lent-eyes, lent-fits, lent-image}
 use Rattle.mr_ready.proofs.Lending.{asks-front_of, asks-none, on-err, totals-kept, whole-front}
 use Rattle.mr_ready.proofs.ready.Ready.make.Goals as goal
@@ -37,7 +37,7 @@ returns-in-Ok-hire-clause-ready g c =
       eyes = subst (λ (es : List _). AreLent g.E.Eye.sight g.E.Eye.faults (told_by g.E.Eye.sight es) c.args.workers c.args.live es) (sym c.in-Ok-hire.ensures.eyes)
           (lent-eyes g.E.Eye.sight g.E.Eye.faults (g.F.Files.told c.args.files.now) (chars c.args.image.now) c.args.workers c.args.live c.deref-2.result.now c.in-Ok-lend_eyes.eyes.items
           c.in-Ok-lend_eyes.ensures.sights are c.requires.workers.0 c.in-Ok-lend_eyes.ensures.no_faults);
-      buffers = subst (λ asks. AreBuffers c.args.head asks c.in-Ok.buffers) c.deref.ensures.value c.in-Ok.ensures;
+      buffers = subst (λ asks. HaveRoom c.args.head asks c.in-Ok.buffers) c.deref.ensures.value c.in-Ok.ensures;
     }
 
 pub returns-in-Ok-hire-clause-image : goal.returns-in-Ok-hire-clause-image

@@ -1,6 +1,6 @@
 use Rattle.std.proofs.Common.{rules, ◌≡◌, ◌∙◌, length, take, drop, arith, sym}
 use Rattle.std.proofs.lemmas.List.{length-take-le, take_at}
-use Rattle.mr_ready.proofs.placing.put_head.Goals as goal
+use Rattle.mr_mend.proofs.images.print_head.Goals as goal
 
 pub slice_bounds-copy_from_slice-end-2 : goal.slice_bounds-copy_from_slice-end-2
 slice_bounds-copy_from_slice-end-2 c = sym (length-take-le 32 c.args.image.now (omega arith))
