@@ -1,0 +1,5 @@
+pub mod Damages
+pub mod Rooms
+pub mod Mending
+pub mod Copying
+pub mod Laws
