@@ -1,9 +1,9 @@
 -- The file in which what fails is mended and the others are copied is the patched one; and where the others come from data it is that of the codewords.
-use Rattle.std.proofs.Common.{◌≡◌, ℕ, List, ◌++◌, take, length, Option, Some, ap, ◌∙◌, arith}
+use Rattle.std.proofs.Common.{◌≡◌, ℕ, List, ◌++◌, take, length, Option, Some, None, ap, subst, ◌∙◌, arith}
 use Rattle.std.specs.Prelude.{IfSome}
 use Rattle.mr_bits.specs.Matrices.{IsMatrixCode}
 use Rattle.mr_model.specs.Plans.{Recipe}
-use Rattle.mr_image.specs.Images.{IsLayout, Image, image_of, mended, code_image}
+use Rattle.mr_image.specs.Images.{Layout, IsLayout, Image, image_of, mended, code_image}
 use Rattle.mr_image.specs.Heads.{head_bytes, file_bytes}
 use Rattle.mr_image.proofs.Codewords.{image_body-same}
 use Rattle.mr_image.proofs.RotatedLaws.{codes-of}
