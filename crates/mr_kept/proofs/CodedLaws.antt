@@ -12,12 +12,12 @@ use Rattle.mr_encode.specs.Data.{symbols_in}
 use Rattle.mr_encode.proofs.ColumnLaws.{row_columns}
 use Rattle.mr_encode.proofs.FrontLaws.{HasFront, front-all}
 use Rattle.mr_encode.proofs.StripeLaws.{symbols_of, length-part, stripe-turn}
-use Rattle.mr_kept.specs.Kept.{stripe_size, coded_bytes, IsAround, StandsAround}
+use Rattle.mr_kept.specs.Kept.{stripe_bytes, coded_bytes, IsAround, StandsAround}
 use Rattle.mr_kept.proofs.PartLaws.{payload-around, payload-stands}
 
 module _ (l : Layout) (m : Code) (is : IsMatrixCode m) (rows : length m.rows ≡ stripe_symbols l) (payload : List ℕ) (long : length payload ≡ m.columns * l.symbol_bytes) where
   -- symbol n, as the code writes its place, its length and its row
-  module _ (size n at width k set : ℕ) (bytes : List ℕ) (size_is : size ≡ l.symbol_bytes) (whole : length bytes ≡ stripe_size l) (low : n < stripe_symbols l)
+  module _ (size n at width k set : ℕ) (bytes : List ℕ) (size_is : size ≡ l.symbol_bytes) (whole : length bytes ≡ stripe_bytes l) (low : n < stripe_symbols l)
       (at_is : at ≡ n) (width_is : width ≡ size) (k_is : k ≡ m.columns) (set_is : set ≡ row m n) where
     sized : length bytes ≡ stripe_symbols l * size
     sized = whole ∙ ap (λ z. stripe_symbols l * z) (sym size_is)
@@ -47,7 +47,7 @@ module _ (l : Layout) (m : Code) (is : IsMatrixCode m) (rows : length m.rows ≡
         ∙ sym (codeword-is m s (symbols_in s m.columns payload) n)
         ∙ ap (symbols_of m s payload) (sym (zero-add n)))
 
-  pub coded-all : (size n : ℕ) (bytes : List ℕ) → size ≡ l.symbol_bytes → length bytes ≡ stripe_size l → n ≡ stripe_symbols l
+  pub coded-all : (size n : ℕ) (bytes : List ℕ) → size ≡ l.symbol_bytes → length bytes ≡ stripe_bytes l → n ≡ stripe_symbols l
       → HasFront (symbols_of m size payload) size 0 n bytes → bytes ≡ coded_bytes l m payload
   unfolding coded_bytes
   coded-all size n bytes size_is whole all h =

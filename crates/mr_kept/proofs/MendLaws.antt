@@ -15,7 +15,7 @@ use Rattle.mr_encode.proofs.ColumnLaws.{place_end}
 use Rattle.mr_encode.proofs.StripeLaws.{length-part}
 use Rattle.mr_mend.proofs.Lists.{symbol_at}
 use Rattle.mr_mend.proofs.Subsets.{within-low}
-use Rattle.mr_kept.specs.Kept.{stripe_size, symbol_in, all_symbols, with_symbol_at, mended_symbol, mended_bytes, IsAmendable}
+use Rattle.mr_kept.specs.Kept.{stripe_bytes, symbol_in, all_symbols, with_symbol_at, mended_symbol, mended_bytes, IsAmendable}
 use Rattle.mr_kept.proofs.PartLaws.{xor_symbols-same, symbols-at, symbol-here, symbol-other, from-symbols, range-slot}
 use Rattle.mr_kept.proofs.RecipeLaws.{equation_of-none, equation_of-some, equation-here, equation-other, equation_of-nil}
 
@@ -32,7 +32,7 @@ length-with_symbol_at : (size i : ℕ) (bytes y : List ℕ) → i * size + size 
 length-with_symbol_at size i bytes y room long =
     omega (arith, length-append (take (i * size) bytes) (y ++ drop (i * size + size) bytes), length-append y (drop (i * size + size) bytes), length-drop (i * size + size) bytes, length-take-le (i * size) bytes (omega (arith, room)), room, long)
 
-module _ (l : Layout) (plan : PlanParts) (may : IsAmendable l plan) (start : List ℕ) (long : length start ≡ stripe_size l) where
+module _ (l : Layout) (plan : PlanParts) (may : IsAmendable l plan) (start : List ℕ) (long : length start ≡ stripe_bytes l) where
   module _ (k : ℕ) (r : Recipe) (here : k < length plan.recipes) (is : r ≡ get_or plan.recipes k r) where
     pub recipe-low : r.symbol < stripe_symbols l
     recipe-low = omega (arith, may.mendable.symbols k r here, ap (λ (q : Recipe). q.symbol) is)
@@ -120,13 +120,13 @@ length-rebuilt : (size : ℕ) (symbols : List (List ℕ)) (symbol : List ℕ) (o
 length-rebuilt size symbols symbol None long = long
 length-rebuilt size symbols symbol (Some e) long = length-xor_symbols size symbols e
 
-pub length-mended_symbol : (l : Layout) (recipes : List Recipe) (bytes : List ℕ) (i : ℕ) → length bytes ≡ stripe_size l → i < stripe_symbols l → length (mended_symbol l recipes bytes i) ≡ l.symbol_bytes
+pub length-mended_symbol : (l : Layout) (recipes : List Recipe) (bytes : List ℕ) (i : ℕ) → length bytes ≡ stripe_bytes l → i < stripe_symbols l → length (mended_symbol l recipes bytes i) ≡ l.symbol_bytes
 unfolding mended_symbol
 length-mended_symbol l recipes bytes i long low =
     length-rebuilt l.symbol_bytes (all_symbols l bytes) (symbol_in l.symbol_bytes bytes i) (equation_of recipes i) (length-part l.symbol_bytes (stripe_symbols l) i l.symbol_bytes bytes long low refl)
 
 -- a symbol of the mended bytes
-pub symbol-mended : (l : Layout) (recipes : List Recipe) (bytes : List ℕ) (i : ℕ) → length bytes ≡ stripe_size l → i < stripe_symbols l
+pub symbol-mended : (l : Layout) (recipes : List Recipe) (bytes : List ℕ) (i : ℕ) → length bytes ≡ stripe_bytes l → i < stripe_symbols l
     → symbol_in l.symbol_bytes (mended_bytes l recipes bytes) i ≡ mended_symbol l recipes bytes i
 unfolding mended_bytes
 symbol-mended l recipes bytes i long low =

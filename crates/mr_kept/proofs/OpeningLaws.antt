@@ -15,7 +15,7 @@ use Rattle.mr_image.specs.Images.{Layout, stripe_symbols, Image, image_of, strip
 use Rattle.mr_image.specs.Heads.{file_bytes}
 use Rattle.mr_encode.proofs.ColumnLaws.{place_end}
 use Rattle.mr_mend.specs.Mending.{has_recipe, HoldsCopies}
-use Rattle.mr_kept.specs.Kept.{stripe_size, symbol_in, all_symbols, stripe_body, mended_symbol, mended_bytes, AreAmendable, items_of, stripe_in, HoldsOpenings}
+use Rattle.mr_kept.specs.Kept.{stripe_bytes, symbol_in, all_symbols, stripe_body, mended_symbol, mended_bytes, AreAmendable, items_of, stripe_in, HoldsOpenings}
 use Rattle.mr_kept.proofs.PartLaws.{xor_symbols-same, symbols-at}
 use Rattle.mr_kept.proofs.MendLaws.{sources-fit, sources-apart}
 
@@ -27,7 +27,7 @@ flat_map-range-same f g (suc n) a same =
     (flat_map-range-same f g n (a + 1) (λ i low. let on : a + 1 + i ≡ a + suc i = omega arith in ap f on ∙ same (suc i) (omega (arith, low)) ∙ ap g (sym on)))
 
 -- the bytes of stripe s, whose symbols without a recipe are those of the image
-module _ (l : Layout) (plans : List PlanParts) (may : AreAmendable l plans) (image : Image) (s : ℕ) (bytes : List ℕ) (long : length bytes ≡ stripe_size l)
+module _ (l : Layout) (plans : List PlanParts) (may : AreAmendable l plans) (image : Image) (s : ℕ) (bytes : List ℕ) (long : length bytes ≡ stripe_bytes l)
     (same : (i : ℕ) → i < stripe_symbols l → has_recipe (recipes_at plans s) i ≡ false → symbol_in l.symbol_bytes bytes i ≡ image s i) where
   symbol-opened : (i : ℕ) → i < stripe_symbols l → mended_symbol l (recipes_at plans s) bytes i ≡ mended l (recipes_at plans) image s i
   unfolding mended_symbol mended recipes_at
@@ -56,31 +56,31 @@ module _ (l : Layout) (plans : List PlanParts) (may : AreAmendable l plans) (ima
 -- ---- the stripes of a file
 
 module _ (l : Layout) (file : List ℕ) (long : length file ≡ file_bytes l) where
-  stripe-end : (s : ℕ) → s < l.stripes → 32 + s * stripe_size l + stripe_size l ≤ length file
+  stripe-end : (s : ℕ) → s < l.stripes → 32 + s * stripe_bytes l + stripe_bytes l ≤ length file
   stripe-end s low =
-      let row : s * stripe_size l + stripe_size l ≤ l.stripes * stripe_size l = row_fits s (stripe_size l) l.stripes (stripe_size l) low (omega arith) in
+      let row : s * stripe_bytes l + stripe_bytes l ≤ l.stripes * stripe_bytes l = row_fits s (stripe_bytes l) l.stripes (stripe_bytes l) low (omega arith) in
       omega (arith, row, long, mul_assoc l.stripes (stripe_symbols l) l.symbol_bytes)
 
   -- as the code writes it
-  pub stripe-room : (s at width : ℕ) → s < l.stripes → width ≡ stripe_size l → at ≡ 32 + s * width → at + width ≤ length file
+  pub stripe-room : (s at width : ℕ) → s < l.stripes → width ≡ stripe_bytes l → at ≡ 32 + s * width → at + width ≤ length file
   stripe-room s at width low w e =
       subst (λ k. k + width ≤ length file) (sym e) (subst (λ k. 32 + s * k + k ≤ length file) (sym w) (stripe-end s low))
 
-  length-stripe_in : (s : ℕ) → s < l.stripes → length (stripe_in l file s) ≡ stripe_size l
-  length-stripe_in s low = omega (arith, length-take (stripe_size l) (drop (32 + s * stripe_size l) file), length-drop (32 + s * stripe_size l) file, stripe-end s low)
+  length-stripe_in : (s : ℕ) → s < l.stripes → length (stripe_in l file s) ≡ stripe_bytes l
+  length-stripe_in s low = omega (arith, length-take (stripe_bytes l) (drop (32 + s * stripe_bytes l) file), length-drop (32 + s * stripe_bytes l) file, stripe-end s low)
 
   -- its symbols are those of the file
   symbol-of : (s i : ℕ) → i < stripe_symbols l → symbol_in l.symbol_bytes (stripe_in l file s) i ≡ image_of l file s i
   symbol-of s i low =
       let size : ℕ = l.symbol_bytes in
-      let end : i * size + size ≤ stripe_size l = place_end size (stripe_symbols l) (stripe_size l) i refl low in
-      let left : ℕ = stripe_size l - i * size in
-      let whole : stripe_size l ≡ i * size + left = omega (arith, end) in
-      let at : 32 + s * stripe_size l + i * size ≡ 32 + (s * stripe_symbols l + i) * size = omega (arith, add-mul (s * stripe_symbols l) i size, mul_assoc s (stripe_symbols l) size) in
-      ap (λ n. take size (drop (i * size) (take n (drop (32 + s * stripe_size l) file)))) whole
-      ∙ ap (take size) (drop-take (i * size) left (drop (32 + s * stripe_size l) file))
-      ∙ take-take size left (drop (i * size) (drop (32 + s * stripe_size l) file)) (omega (arith, end))
-      ∙ ap (take size) (drop-drop (i * size) (32 + s * stripe_size l) file)
+      let end : i * size + size ≤ stripe_bytes l = place_end size (stripe_symbols l) (stripe_bytes l) i refl low in
+      let left : ℕ = stripe_bytes l - i * size in
+      let whole : stripe_bytes l ≡ i * size + left = omega (arith, end) in
+      let at : 32 + s * stripe_bytes l + i * size ≡ 32 + (s * stripe_symbols l + i) * size = omega (arith, add-mul (s * stripe_symbols l) i size, mul_assoc s (stripe_symbols l) size) in
+      ap (λ n. take size (drop (i * size) (take n (drop (32 + s * stripe_bytes l) file)))) whole
+      ∙ ap (take size) (drop-take (i * size) left (drop (32 + s * stripe_bytes l) file))
+      ∙ take-take size left (drop (i * size) (drop (32 + s * stripe_bytes l) file)) (omega (arith, end))
+      ∙ ap (take size) (drop-drop (i * size) (32 + s * stripe_bytes l) file)
       ∙ ap (λ n. take size (drop n file)) at
 
   module _ (stripes : List (Vec ℕ Global)) (are : items_of stripes ≡ map (stripe_in l file) (range_with_len 0 l.stripes)) where
@@ -90,7 +90,7 @@ module _ (l : Layout) (file : List ℕ) (long : length file ≡ file_bytes l) wh
     stripe-at : (s : ℕ) (d : List ℕ) → s < l.stripes → get_or (items_of stripes) s d ≡ stripe_in l file s
     stripe-at s d low = ap (λ xs. get_or xs s d) are ∙ get_or-map-range_with_len (stripe_in l file) 0 l.stripes s s d low (zero-add s)
 
-    pub stripe-widths : All (λ bytes. length bytes ≡ stripe_size l) (items_of stripes)
+    pub stripe-widths : All (λ bytes. length bytes ≡ stripe_bytes l) (items_of stripes)
     stripe-widths s d low =
         let here : s < l.stripes = omega (arith, low, ap length are, length-map-range_with_len (stripe_in l file) 0 l.stripes) in
         ap length (stripe-at s d here) ∙ length-stripe_in s here
@@ -117,5 +117,5 @@ pub stripes-more : (l : Layout) (file : List ℕ) (n : ℕ) (stripes : List (Lis
 stripes-more l file n stripes bytes e is = (λ j. e j ++ is j ∷ []) ∙ sym (map-range-more (stripe_in l file) n)
 
 -- what is read of a stripe, as the code writes its place and its length
-pub stripe-read : (l : Layout) (file : List ℕ) (s at width size : ℕ) → width ≡ stripe_size l → at ≡ 32 + s * width → size ≡ width → take size (drop at file) ≡ stripe_in l file s
+pub stripe-read : (l : Layout) (file : List ℕ) (s at width size : ℕ) → width ≡ stripe_bytes l → at ≡ 32 + s * width → size ≡ width → take size (drop at file) ≡ stripe_in l file s
 stripe-read l file s at width size w e z = (λ j. take (z j) (drop (e j) file)) ∙ (λ j. take (w j) (drop (32 + s * w j) file))

@@ -12,16 +12,13 @@ use Rattle.mr_image.specs.Images.{Layout, stripe_symbols, Image, equation_of, re
 use Rattle.mr_image.specs.Rotated.{FitsCode}
 use Rattle.mr_image.specs.declared.limits.TheConstants.{HEAD_BYTES}
 use Rattle.mr_encode.specs.Data.{symbols_in}
+pub use Rattle.mr_scrub.specs.Scans.{stripe_bytes}
 use Rattle.mr_plan.specs.Plans.{PlanParts}
 use Rattle.mr_plan.specs.PlanLists.{plan_at}
 use Rattle.mr_mend.specs.Mending.{IsMendable}
 use Rattle.mr_mend.specs.Rotations.{AreValidPlans}
 
 -- ---- the symbols of a stripe
-
--- how many bytes a stripe has
-abbrev pub stripe_size : Layout → ℕ
-stripe_size l = stripe_symbols l * l.symbol_bytes
 
 -- symbol i of these bytes, and all symbols
 abbrev pub symbol_in : ℕ → List ℕ → ℕ → List ℕ
@@ -93,7 +90,7 @@ items_of stripes = map (λ v. v.items) stripes
 
 -- the bytes of stripe s of a file
 abbrev pub stripe_in : Layout → List ℕ → ℕ → List ℕ
-stripe_in l file s = take (stripe_size l) (drop (HEAD_BYTES + s * stripe_size l) file)
+stripe_in l file s = take (stripe_bytes l) (drop (HEAD_BYTES + s * stripe_bytes l) file)
 
 -- in each of these stripes its recipes give the stripe of the mended image
 pub record HoldsOpenings (l : Layout) (recipes : ℕ → List Recipe) (image : Image)

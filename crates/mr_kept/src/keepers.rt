@@ -6,7 +6,7 @@ ghost use Rattle.mr_image.specs.Images.{equation_of, stripe_symbols, xor_symbols
 ghost use Rattle.mr_image.specs.Rotated.{FitsCode, codes_by};
 ghost use Rattle.mr_plan.specs.PlanLists.{recipes_at};
 ghost use Rattle.mr_encode.specs.Data.{symbols_in};
-ghost use Rattle.mr_kept.specs.Kept.{AreAmendable, IsAmendable, IsAround, StandsAround, all_symbols, coded_bytes, mended_bytes, mended_symbol, stripe_size, symbol_in, with_symbol_at};
+ghost use Rattle.mr_kept.specs.Kept.{AreAmendable, IsAmendable, IsAround, StandsAround, all_symbols, coded_bytes, mended_bytes, mended_symbol, stripe_bytes, symbol_in, with_symbol_at};
 
 use mr_bits::{Mask, Matrix};
 use mr_image::ImageHead;
@@ -31,7 +31,7 @@ impl Keeper<'_> {
     /// those of the stripe, whose lost symbols are of no account, and stay as they are.
     pub fn read(&self, stripe: u32, bytes: &[u8], number: u8, symbol: &mut [u8])
         requires plans { AreAmendable self.now.head.now self.now.plans.now }
-        requires bytes { length bytes.now ≡ stripe_size self.now.head.now }
+        requires bytes { length bytes.now ≡ stripe_bytes self.now.head.now }
         requires number { number < stripe_symbols self.now.head.now }
         requires symbol { length symbol.old ≡ self.now.head.now.symbol_bytes }
         ensures symbol { symbol.new ≡ mended_symbol self.now.head.now
@@ -46,7 +46,7 @@ impl Keeper<'_> {
     /// Rebuilds the lost symbols in the bytes of a stripe itself.
     pub fn mend(&self, stripe: u32, bytes: &mut [u8])
         requires plans { AreAmendable self.now.head.now self.now.plans.now }
-        requires bytes { length bytes.old ≡ stripe_size self.now.head.now }
+        requires bytes { length bytes.old ≡ stripe_bytes self.now.head.now }
         ensures { bytes.new ≡ mended_bytes self.now.head.now
             (recipes_at self.now.plans.now stripe) bytes.old }
     {
@@ -59,7 +59,7 @@ impl Keeper<'_> {
         requires code { FitsCode self.now.head.now self.now.matrix.now }
         requires payload { length payload.now
             ≡ self.now.matrix.now.columns * self.now.head.now.symbol_bytes }
-        requires bytes { length bytes.old ≡ stripe_size self.now.head.now }
+        requires bytes { length bytes.old ≡ stripe_bytes self.now.head.now }
         ensures { bytes.new ≡ coded_bytes self.now.head.now
             (codes_by self.now.head.now self.now.matrix.now stripe) payload.now }
     {
@@ -97,7 +97,7 @@ impl Keeper<'_> {
     /// As `read`, by this plan.
     fn read_by(&self, plan: &Plan, bytes: &[u8], number: u8, symbol: &mut [u8])
         requires plan { IsAmendable self.now.head.now plan.now }
-        requires bytes { length bytes.now ≡ stripe_size self.now.head.now }
+        requires bytes { length bytes.now ≡ stripe_bytes self.now.head.now }
         requires number { number < stripe_symbols self.now.head.now }
         requires symbol { length symbol.old ≡ self.now.head.now.symbol_bytes }
         ensures { symbol.new ≡ mended_symbol self.now.head.now plan.now.recipes bytes.now number }
@@ -116,7 +116,7 @@ impl Keeper<'_> {
     /// As `mend`, by this plan.
     fn mend_by(&self, plan: &Plan, bytes: &mut [u8])
         requires plan { IsAmendable self.now.head.now plan.now }
-        requires bytes { length bytes.old ≡ stripe_size self.now.head.now }
+        requires bytes { length bytes.old ≡ stripe_bytes self.now.head.now }
         ensures { bytes.new ≡ mended_bytes self.now.head.now plan.now.recipes bytes.old }
     {
         for recipe in plan.recipes() {
@@ -129,7 +129,7 @@ impl Keeper<'_> {
         requires number { number < stripe_symbols self.now.head.now }
         requires sources { (sources < 2 ^ stripe_symbols self.now.head.now)
             × (bit_at sources number ≡ 0) }
-        requires bytes { length bytes.old ≡ stripe_size self.now.head.now }
+        requires bytes { length bytes.old ≡ stripe_bytes self.now.head.now }
         ensures { bytes.new ≡ with_symbol_at self.now.head.now.symbol_bytes number bytes.old
             (xor_symbols self.now.head.now.symbol_bytes
             (all_symbols self.now.head.now bytes.old) sources) }

@@ -10,7 +10,7 @@ ghost use Rattle.mr_image.specs.Heads.{file_bytes};
 ghost use Rattle.mr_image.specs.Sights.{HasImage, IsSameFile};
 ghost use Rattle.mr_plan.specs.PlanLists.{recipes_at};
 ghost use Rattle.mr_mend.specs.Mending.{HoldsCopies, copied_set};
-ghost use Rattle.mr_kept.specs.Kept.{AreAmendable, HoldsOpenings, items_of, stripe_in, stripe_size};
+ghost use Rattle.mr_kept.specs.Kept.{AreAmendable, HoldsOpenings, items_of, stripe_in, stripe_bytes};
 
 use mr_image::{HEAD_BYTES, ImageHead};
 use mr_io::{Eye, Failed, FilesError};
@@ -35,7 +35,7 @@ pub fn read_stripes<E: Eye>(
     requires plans { AreAmendable head.now plans.now }
     ensures count { IfOk result (λ stripes. length stripes.items ≡ head.now.stripes) }
     ensures widths { IfOk result (λ stripes.
-        All (λ bytes. length bytes ≡ stripe_size head.now) (items_of stripes.items)) }
+        All (λ bytes. length bytes ≡ stripe_bytes head.now) (items_of stripes.items)) }
     ensures opened { IfOk result (λ stripes. IfSome (E.sight eye.old).bytes (λ bytes.
         HoldsOpenings head.now (recipes_at plans.now) (image_of head.now bytes)
         (items_of stripes.items))) }
