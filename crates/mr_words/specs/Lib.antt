@@ -9,4 +9,3 @@ pub mod Texts
 pub mod Encode
 pub mod Rebuild
 pub mod ImageWords
-pub mod Drill

@@ -1,4 +1,0 @@
-pub mod Counts
-pub mod Repairs
-pub mod Steps
-pub mod Laws

@@ -1,2 +1,0 @@
-pub mod SurveyLaws
-pub mod KnownLaws
