@@ -2,6 +2,7 @@
 use Rattle.std.proofs.Common.{◌≡◌, ℕ, zero, suc, ◌*◌, ◌%◌, ◌^◌, ◌<◌, ◌≤◌, ◌==◌, Bool, true, false, cond, ⊎_elim, List, [], map, length, get_or, Any, Result, Ok, Option, refl, sym, ap, subst, ◌∙◌, arith, pow_mono}
 use Rattle.std.specs.Prelude.{is_some, IsOk}
 use Rattle.std.specs.Int.{bit_at}
+use Rattle.std.proofs.lemmas.Bool.{false≢true}
 use Rattle.std.proofs.lemmas.List.{length-map}
 use Rattle.std.proofs.lemmas.Nat.{mod_below}
 use Rattle.std.proofs.lemmas.Nat.Bits.{same_from_bits, bit_at-zero}
@@ -154,9 +155,6 @@ module _ (d : DamageParts) (may : IsLayout d.layout) (is : IsMatrixCode d.code) 
 
 -- ---- which symbols have a recipe
 
-true_and_false : (b : Bool) → b ≡ true → b ≡ false → ⊥
-true_and_false b e f = cc
-
 module _ (d : DamageParts) (budget s : ℕ) where
   pub failed-has : (i : ℕ) → i < 128 → bit_at (failed_at d s) i ≡ 1 → has_recipe (recipes_at d budget s) i ≡ true
   failed-has i low member = ap is_some (found-member (code_at d s) (set_at d budget s) (failed_at d s) i low member)
@@ -167,11 +165,11 @@ module _ (d : DamageParts) (budget s : ℕ) where
   pub has-failed : (i : ℕ) → has_recipe (recipes_at d budget s) i ≡ true → bit_at (failed_at d s) i ≡ 1
   has-failed i holds = ⊎_elim
       (λ (member : bit_at (failed_at d s) i ≡ 1). member)
-      (λ (out : bit_at (failed_at d s) i ≡ 0). absurd (true_and_false (has_recipe (recipes_at d budget s) i) holds (other-lacks i out)))
+      (λ (out : bit_at (failed_at d s) i ≡ 0). absurd (false≢true (sym (other-lacks i out) ∙ holds)))
       (bit_at_cases (failed_at d s) i)
 
   pub lacks-other : (i : ℕ) → i < 128 → has_recipe (recipes_at d budget s) i ≡ false → bit_at (failed_at d s) i ≡ 0
   lacks-other i low lacks = ⊎_elim
-      (λ (member : bit_at (failed_at d s) i ≡ 1). absurd (true_and_false (has_recipe (recipes_at d budget s) i) (failed-has i low member) lacks))
+      (λ (member : bit_at (failed_at d s) i ≡ 1). absurd (false≢true (sym lacks ∙ failed-has i low member)))
       (λ (out : bit_at (failed_at d s) i ≡ 0). out)
       (bit_at_cases (failed_at d s) i)

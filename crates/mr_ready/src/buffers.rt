@@ -11,13 +11,13 @@ use std::alloc::Global;
 /// What a rebuild makes: the bytes of the image file, and those of the replies; and room for the lines that are gathered
 /// before they are put.
 #[derive(Drop)]
-pub(crate) struct Buffers {
+pub struct Buffers {
     /// The bytes of the image file.
     pub image: Vec<u8>,
     /// The bytes of the replies, one symbol for each read, in the order of the reads.
     pub replies: Vec<u8>,
     /// The room for lines: for one at least.
-    pub line: Vec<u8>,
+    pub(crate) line: Vec<u8>,
 }
 
 /// The buffers of an image with this head and of these reads. That of the image has room for the bytes of the whole file, and

@@ -11,8 +11,7 @@ ghost use Rattle.mr_steps.specs.Sinks.{IsReported};
 ghost use Rattle.mr_ready.specs.Writing.{WritesAll, WritesFront};
 
 use crate::faults::CarryFault;
-use crate::means::Means;
-use crate::reading::{Read, read_image};
+use crate::mending::{Mended, mend_image};
 use crate::ready::Ready;
 use crate::writing::write_rebuilt;
 use mr_io::{Eye, Gate, Sink};
@@ -70,13 +69,7 @@ pub fn carry<T: Threads + Sync, E: Eye + Send, O: Sink, R: Sink, G: Gate + Sync>
     ensures out_quiet { OnOk result.result (O.faults out.new ≡ O.faults out.old) }
     ensures report_quiet { OnOk result.result (R.faults report.new ≡ R.faults report.old) }
 {
-    let Ready {
-        order,
-        crew,
-        buffers,
-    } = ready;
-    let means = Means { rt, gate, kernel };
-    let Read { eyes, made } = read_image(&means, &order, crew, buffers);
+    let Mended { order, eyes, made } = mend_image(rt, ready, gate, kernel);
     match made {
         Ok(mut made) => match write_rebuilt(&order, &mut made, out, report) {
             Ok(()) => Carried {

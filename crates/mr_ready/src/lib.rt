@@ -11,6 +11,7 @@ mod desks;
 mod faults;
 mod gathering;
 mod means;
+mod mending;
 mod orders;
 mod placing;
 mod printing;
@@ -19,8 +20,10 @@ mod ready;
 mod replying;
 mod writing;
 
+pub use buffers::Buffers;
 pub use carrying::{Carried, carry};
 pub use faults::CarryFault;
+pub use mending::{Mended, mend_image};
 pub use mr_steps::ChoiceLine as Line;
 pub use orders::Order;
 pub use ready::Ready;

@@ -25,7 +25,7 @@ use mr_steps::ChoiceLine;
 use std::alloc::Global;
 
 /// A rebuild that is ready: what is to be rebuilt, with all eyes and all memory that it takes. Its eyes can only be
-/// carried to the end by `carry`, which hands them back.
+/// carried to the end by `carry` or by `mend_image`, which hand them back.
 pub struct Ready<E> {
     /// What is to be rebuilt.
     pub order: Order,

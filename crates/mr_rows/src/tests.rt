@@ -1,6 +1,7 @@
 //! The tests, a file for each part, and what they share.
 
 mod checks;
+mod drills;
 mod failing;
 mod faults;
 mod long_files;

@@ -52,7 +52,7 @@ module _ (l : Layout) (may : IsLayout l) where
       }
 
   -- the first of some sectors are sectors
-  sectors-front : (lost : ℕ) (xs ys : List Ask) → AreSectors l lost (xs ++ ys) → AreSectors l lost xs
+  pub sectors-front : (lost : ℕ) (xs ys : List Ask) → AreSectors l lost (xs ++ ys) → AreSectors l lost xs
   sectors-front lost xs ys h = record {
     in_range = λ k d low. subst (IsInRange l) (get_or-append xs ys d k low) (h.in_range k d (omega (arith, low, length-append xs ys)));
     not_lost = λ k d low. subst (λ (sector : Ask). bit_at lost sector.symbol ≡ 0) (get_or-append xs ys d k low) (h.not_lost k d (omega (arith, low, length-append xs ys)));

@@ -1,10 +1,10 @@
 //! The reading of a list of unreadable symbols: one on each line.
 
-ghost use Rattle.std.specs.Prelude.{◌≡◌, ◌≢◌, ℕ, ◌+◌, ◌-◌, ◌<◌, ◌≤◌, true, false, List, [], ◌∷◌, ◌++◌, length, slice_index_or, IfOk, IfSome, IfNone, IsErrOf};
+ghost use Rattle.std.specs.Prelude.{◌≡◌, ◌≢◌, ℕ, ◌+◌, ◌-◌, ◌<◌, ◌≤◌, true, false, List, [], ◌∷◌, ◌++◌, length, slice_index_or, Ok, Err, IfOk, IfSome, IfNone, IsErrOf};
 ghost use Rattle.mr_mend.specs.declared.asks.Ask.{Ask as AnAsk};
 ghost use Rattle.mr_mend.specs.Scripts.{ask_line, script_text};
 ghost use Rattle.mr_sector.specs.declared.sectors.TheConstants.{SECTORS_LIMIT};
-ghost use Rattle.mr_sector.specs.Sectors.{AreSectors, ComesBefore, HasFirstBadSector};
+ghost use Rattle.mr_sector.specs.Sectors.{AreSectors, ComesBefore, HasFirstBadSector, sectors_of};
 
 use mr_bits::Mask;
 use mr_image::ImageHead;
@@ -66,7 +66,14 @@ pub fn read_sectors(
     ensures sectors { IfOk result (λ sectors. AreSectors head.now lost sectors.items) }
     ensures bad_line { (line : ℕ) → IsErrOf result (SectorsFault.Line line)
         → HasFirstBadSector head.now lost bytes.now line }
+
+    // What these say of the bytes, as a function of them.
+    ensures reads { IfOk result (λ sectors.
+        sectors_of head.now lost bytes.now ≡ Ok sectors.items) }
+    ensures refuses { (line : ℕ) → IsErrOf result (SectorsFault.Line line)
+        → sectors_of head.now lost bytes.now ≡ Err line }
 {
+    let _within_the_limits = head.bytes();
     let mut sectors = Vec::new(alloc);
     let mut left = bytes;
     while !left.is_empty() {

@@ -2,6 +2,7 @@
 use Rattle.std.specs.List.{list_any}
 use Rattle.std.specs.Prelude.{Bool, Err, List, None, Ok, Option, Result, Some, [], bytes_eq, codes, drop, if◌then◌else◌, option_map, true, ℕ, ⊤, ◌==◌, ◌∷◌, ◌≡◌}
 use Rattle.mr_words.specs.Check.{check_of}
+use Rattle.mr_words.specs.Drill.{drill_of}
 use Rattle.mr_words.specs.Encode.{encode_of}
 use Rattle.mr_words.specs.ImageWords.{image_words_of}
 use Rattle.mr_words.specs.Make.{make_of}
@@ -10,6 +11,7 @@ use Rattle.mr_words.specs.Rebuild.{rebuild_of}
 use Rattle.mr_words.specs.Texts.{IsWorkers, primes_of}
 use Rattle.mr_words.specs.declared.check_words.CheckWords.{CheckWords}
 use Rattle.mr_words.specs.declared.code.Code.{Code}
+use Rattle.mr_words.specs.declared.drill_words.DrillWords.{DrillWords}
 use Rattle.mr_words.specs.declared.encode_words.EncodeWords.{EncodeWords}
 use Rattle.mr_words.specs.declared.image_words.ImageWords.{ImageWords}
 use Rattle.mr_words.specs.declared.make_words.MakeWords.{MakeWords}
@@ -18,7 +20,7 @@ use Rattle.mr_words.specs.declared.rebuild_words.RebuildWords.{RebuildWords}
 use Rattle.mr_steps.specs.declared.fault.Fault.{Fault}
 use Rattle.mr_steps.specs.declared.fault.Fault.TheVariants.{Usage}
 use Rattle.mr_steps.specs.declared.request.Request.{Request}
-use Rattle.mr_steps.specs.declared.request.Request.TheVariants.{Check, Convert, Encode, Make, Plan, Rebuild, Scrub}
+use Rattle.mr_steps.specs.declared.request.Request.TheVariants.{Check, Convert, Drill, Encode, Make, Plan, Rebuild, Scrub}
 
 -- the request that the words of each command make
 abbrev pub plan_request : PlanWords → Request
@@ -43,6 +45,9 @@ convert_request words = Convert words.matrix words.image
 abbrev pub scrub_request : ImageWords → Request
 scrub_request words = Scrub words.matrix words.image
 
+abbrev pub drill_request : DrillWords → Request
+drill_request words = Drill words.number
+
 -- the request of words, of which the first is the command and is not looked at
 abbrev pub plan_request_of : List (List ℕ) → Option Request
 plan_request_of words = option_map plan_request (plan_of (drop 1 words))
@@ -65,6 +70,9 @@ convert_request_of words = option_map convert_request (image_words_of (drop 1 wo
 abbrev pub scrub_request_of : List (List ℕ) → Option Request
 scrub_request_of words = option_map scrub_request (image_words_of (drop 1 words))
 
+abbrev pub drill_request_of : List (List ℕ) → Option Request
+drill_request_of words = option_map drill_request (drill_of (drop 1 words))
+
 abbrev pub command_request : List ℕ → List (List ℕ) → Option Request
 command_request command words =
     if bytes_eq command (codes "plan") then plan_request_of words
@@ -74,6 +82,7 @@ command_request command words =
     else if bytes_eq command (codes "rebuild") then rebuild_request_of words
     else if bytes_eq command (codes "convert") then convert_request_of words
     else if bytes_eq command (codes "scrub") then scrub_request_of words
+    else if bytes_eq command (codes "drill") then drill_request_of words
     else None
 
 -- the request of the words after the program's name, if they are in the grammar
@@ -95,6 +104,7 @@ IsRequest (Encode matrix payload stripes bytes) = ⊤
 IsRequest (Rebuild matrix image lost workers budget plan live) = IsWorkers workers
 IsRequest (Convert matrix image) = ⊤
 IsRequest (Scrub matrix image) = ⊤
+IsRequest (Drill number) = ⊤
 
 -- the words of a rebuild
 abbrev pub rebuild_words : List ℕ → List ℕ → List ℕ → ℕ → ℕ → Option (List ℕ) → Bool

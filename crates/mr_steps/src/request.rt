@@ -1,7 +1,7 @@
 //! What the words of the command line ask for.
 
 use mr_io::Text;
-use mr_words::{CheckWords, Code, EncodeWords, MakeWords, PlanWords, RebuildWords};
+use mr_words::{CheckWords, Code, DrillWords, EncodeWords, MakeWords, PlanWords, RebuildWords};
 
 /// What the words of the command line ask for.
 #[derive(Debug, Drop)]
@@ -54,6 +54,10 @@ pub enum Request {
     Scrub {
         matrix: Text,
         image: Text,
+    },
+    /// The drill of this number, over an image that it makes in memory.
+    Drill {
+        number: u32,
     },
 }
 
@@ -133,6 +137,19 @@ impl From<RebuildWords> for Request {
             budget: words.budget,
             plan: words.plan,
             live: words.live,
+        }
+    }
+}
+
+impl From<DrillWords> for Request {
+    ghost use Rattle.std.specs.Prelude.{◌≡◌};
+    ghost use Rattle.mr_steps.specs.Requests.{drill_request};
+
+    ghost from_gives = { λ words request. request ≡ drill_request words };
+
+    fn from(words: DrillWords) -> Request {
+        Request::Drill {
+            number: words.number,
         }
     }
 }

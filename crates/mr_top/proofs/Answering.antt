@@ -18,6 +18,7 @@ use Rattle.mr_top.specs.CheckSteps.{check_answer}
 use Rattle.mr_top.specs.Convert.{convert_answer}
 use Rattle.mr_top.specs.EncodeSteps.{encode_answer}
 use Rattle.mr_top.specs.Findings.{Finding, MayWrite, rebuilding, to_write, writing}
+use Rattle.mr_top.specs.Drill.{drill_given}
 use Rattle.mr_top.specs.Make.{make_given}
 use Rattle.mr_top.specs.PlanSteps.{plan_answer}
 use Rattle.mr_top.specs.Scrub.{scrub_answer}
@@ -30,7 +31,7 @@ use Rattle.mr_steps.specs.Requests.{or_usage, rebuild_words, request_of}
 use Rattle.mr_choices.specs.declared.chosen.ChosenPlan.{ChosenPlan}
 use Rattle.mr_steps.specs.declared.fault.Fault.{Fault}
 use Rattle.mr_steps.specs.declared.request.Request.{Request}
-use Rattle.mr_steps.specs.declared.request.Request.TheVariants.{Check, Convert, Encode, Make, Plan, Rebuild, Scrub}
+use Rattle.mr_steps.specs.declared.request.Request.TheVariants.{Check, Convert, Drill, Encode, Make, Plan, Rebuild, Scrub}
 use Rattle.mr_top.proofs.Accepting.{check-is, encode-is, plan-is, rebuild-is, rebuild_found}
 use Rattle.mr_top.proofs.CodewordsOwn.{given-code}
 use Rattle.mr_top.proofs.Converting.{convert-is}
@@ -123,6 +124,7 @@ is-answered (Convert matrix image) contents left found output e may =
 is-answered (Scrub matrix image) contents left found output e may =
     let w = writing-of (scrub_answer contents matrix image) found e in
     sym (scrub-is contents matrix image) ∙ w.result_is ∙ ap (λ (o : Output). Ok o) (sym (writes-own (scrub_answer contents matrix image) found output w may))
+is-answered (Drill number) contents left found output e may = made-as (drill_given number) found output e may
 
 pub refusal-is : (request : Request) (contents : List ℕ → List ℕ) (left : List ℕ)
     → refusal_of (command_answer contents left request).result ≡ refusal contents left request
@@ -138,6 +140,7 @@ refusal-is (Rebuild matrix image lost workers budget plan live) contents left =
 refusal-is (Convert matrix image) contents left =
     refusal-written (convert_answer contents matrix image) ∙ ap refusal_of (convert-is contents matrix image) ∙ refusal-followed _ image_written
 refusal-is (Scrub matrix image) contents left = refusal-written (scrub_answer contents matrix image) ∙ ap refusal_of (scrub-is contents matrix image)
+refusal-is (Drill number) contents left = refusal-written (given (drill_given number))
 
 -- an image that is to be rebuilt is told where the files tell
 abbrev image-in : Finding → Option (List ℕ)
@@ -160,6 +163,7 @@ found-told (Rebuild matrix file lost workers budget plan live) contents left ord
     (g.value.bytes, ap image-in g.holds)
 found-told (Convert matrix file) contents left order image e = absurd (not-written (convert_answer contents matrix file) order image e)
 found-told (Scrub matrix file) contents left order image e = absurd (not-written (scrub_answer contents matrix file) order image e)
+found-told (Drill number) contents left order image e = absurd (not-written (given (drill_given number)) order image e)
 
 -- ---- words
 

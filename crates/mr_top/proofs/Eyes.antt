@@ -27,7 +27,7 @@ use Rattle.mr_steps.specs.Requests.{or_usage, rebuild_words, request_of}
 use Rattle.mr_steps.specs.Steps.{FollowsWith}
 use Rattle.mr_steps.specs.declared.fault.Fault.{Fault}
 use Rattle.mr_steps.specs.declared.request.Request.{Request}
-use Rattle.mr_steps.specs.declared.request.Request.TheVariants.{Check, Convert, Encode, Make, Plan, Rebuild, Scrub}
+use Rattle.mr_steps.specs.declared.request.Request.TheVariants.{Check, Convert, Drill, Encode, Make, Plan, Rebuild, Scrub}
 use Rattle.mr_top.specs.Check.{cost_given}
 use Rattle.mr_steps.specs.Losses.{targets_given}
 use Rattle.mr_steps.proofs.Chains.{eyes-given}
@@ -244,6 +244,7 @@ front-answer words contents left = go (request_of words)
     go (Some (Check matrix lost plan)) = front-check_answer contents matrix lost plan
     go (Some (Convert matrix image)) = front-whole first_version (λ _. converted_output) contents matrix image
     go (Some (Scrub matrix image)) = front-whole any_version scrub_output contents matrix image
+    go (Some (Drill number)) = front_same [] [] refl
     go (Some (Plan matrix lost workers budget)) = front_same _ _ (eyes-plan_answer contents matrix lost budget)
 
 -- a front of a front

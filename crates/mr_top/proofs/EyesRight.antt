@@ -28,7 +28,7 @@ use Rattle.mr_steps.specs.Requests.{or_usage, rebuild_words, request_of}
 use Rattle.mr_choices.specs.declared.chosen.ChosenPlan.{ChosenPlan}
 use Rattle.mr_steps.specs.declared.fault.Fault.{Fault}
 use Rattle.mr_steps.specs.declared.request.Request.{Request}
-use Rattle.mr_steps.specs.declared.request.Request.TheVariants.{Check, Convert, Encode, Make, Plan, Rebuild, Scrub}
+use Rattle.mr_steps.specs.declared.request.Request.TheVariants.{Check, Convert, Drill, Encode, Make, Plan, Rebuild, Scrub}
 use Rattle.mr_top.proofs.AcceptedParts.{image_of_loss, image_of_matrix, image_of_plan, rebuild_of_head, rebuild_of_loss, rebuild_of_matrix, rebuild_of_plan}
 use Rattle.mr_top.proofs.Accepting.{handed-is, image-is, matrix-is, head-is}
 use Rattle.mr_steps.proofs.Chains.{eyes-given}
@@ -209,6 +209,7 @@ request-eyes (Encode matrix payload stripes bytes) contents left = encode-eyes c
 request-eyes (Rebuild matrix image lost workers budget plan live) contents left = rebuild-eyes contents left (rebuild_words matrix image lost workers budget plan live)
 request-eyes (Convert matrix image) contents left = whole-eyes first_version (λ _. converted_output) contents matrix image
 request-eyes (Scrub matrix image) contents left = whole-eyes any_version scrub_output contents matrix image
+request-eyes (Drill number) contents left = refl
 
 pub words-eyes : (words : List (List ℕ)) (contents : List ℕ → List ℕ) (left : List ℕ) → (answer words contents left).eyes ≡ words_eyes contents left (request_of words)
 unfolding answer

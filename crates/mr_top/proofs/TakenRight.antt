@@ -43,6 +43,7 @@ use Rattle.mr_top.specs.CheckSteps.{check_answer}
 use Rattle.mr_top.specs.Commands.{answer, command_answer}
 use Rattle.mr_top.specs.EncodeSteps.{encode_answer, encoded_file}
 use Rattle.mr_top.specs.Findings.{Finding, rebuilding, writing}
+use Rattle.mr_top.specs.Drill.{drill_given}
 use Rattle.mr_top.specs.Make.{make_given}
 use Rattle.mr_top.specs.Plan.{plan_given}
 use Rattle.mr_top.specs.PlanSteps.{plan_answer}
@@ -55,7 +56,7 @@ use Rattle.mr_steps.specs.Requests.{or_usage, rebuild_words, request_of}
 use Rattle.mr_top.specs.Taken.{IsTaken, TookRight, plan_bytes, survivor_asks, whole_taken}
 use Rattle.mr_steps.specs.declared.fault.Fault.{Fault}
 use Rattle.mr_steps.specs.declared.request.Request.{Request}
-use Rattle.mr_steps.specs.declared.request.Request.TheVariants.{Check, Convert, Encode, Make, Plan, Rebuild, Scrub}
+use Rattle.mr_steps.specs.declared.request.Request.TheVariants.{Check, Convert, Drill, Encode, Make, Plan, Rebuild, Scrub}
 use Rattle.mr_top.proofs.AcceptedParts.{rebuild_of_head, rebuild_of_loss, rebuild_of_plan}
 use Rattle.mr_top.proofs.Accepting.{handed-is, image_file-is, matrix-is, head-is}
 use Rattle.mr_top.proofs.CheckSteps.{cost_next, lost_next, plan_next, valid_next}
@@ -417,6 +418,8 @@ took-right (Scrub matrix image) contents left found old mid new e h took =
     grew-gave (either_accepted contents matrix image) (whole_taken (length (contents matrix))) (scrub_answer contents matrix image).taken old new
     (took-written (scrub_answer contents matrix image) found old mid new _ w refl h took)
     (whole-took any_version scrub_output contents matrix image w.output w.result_is)
+took-right (Drill number) contents left found old mid new e h took =
+    took-written (given (drill_given number)) found old mid new no_bytes (writing-of (given (drill_given number)) found e) refl h took
 
 -- the totals of a run that answered its words
 pub words-took : (words : List (List ℕ)) (contents : List ℕ → List ℕ) (left : List ℕ) (found : Finding) (old mid new : Totals)

@@ -7,9 +7,10 @@ use Rattle.mr_steps.specs.Sinks.{Output}
 use Rattle.mr_steps.specs.declared.fault.Fault.{Fault}
 use Rattle.mr_steps.specs.declared.fault.Fault.TheVariants.{Usage}
 use Rattle.mr_steps.specs.declared.request.Request.{Request}
-use Rattle.mr_steps.specs.declared.request.Request.TheVariants.{Check, Convert, Encode, Make, Plan, Rebuild, Scrub}
+use Rattle.mr_steps.specs.declared.request.Request.TheVariants.{Check, Convert, Drill, Encode, Make, Plan, Rebuild, Scrub}
 use Rattle.mr_top.specs.Check.{check_accepted, check_written}
 use Rattle.mr_top.specs.Convert.{convert_accepted}
+use Rattle.mr_top.specs.Drill.{drill_given}
 use Rattle.mr_top.specs.Encode.{encode_accepted, image_written}
 use Rattle.mr_top.specs.Make.{make_given}
 use Rattle.mr_top.specs.Plan.{plan_accepted, plan_written}
@@ -34,6 +35,7 @@ IsAnswered (Convert matrix image) contents left output =
     Gave (convert_accepted contents matrix image) (λ file. output ≡ image_written file)
 IsAnswered (Scrub matrix image) contents left output =
     scrub_accepted contents matrix image ≡ Ok output
+IsAnswered (Drill number) contents left output = drill_given number ≡ Ok output
 
 -- the first refusal of a request
 abbrev pub refusal : (List ℕ → List ℕ) → List ℕ → Request → Option Fault
@@ -49,6 +51,7 @@ refusal contents left (Rebuild matrix image lost workers budget plan live) =
     (rebuild_words matrix image lost workers budget plan live))
 refusal contents left (Convert matrix image) = refusal_of (convert_accepted contents matrix image)
 refusal contents left (Scrub matrix image) = refusal_of (scrub_accepted contents matrix image)
+refusal contents left (Drill number) = refusal_of (drill_given number)
 
 -- the first refusal of the words' request; words that are none are refused as such
 abbrev pub words_refusal : (List ℕ → List ℕ) → List ℕ → Option Request → Option Fault
@@ -65,6 +68,7 @@ reaches_script contents (Rebuild matrix image lost workers budget plan live) =
     is_ok (image_accepted contents (rebuild_words matrix image lost workers budget plan live))
 reaches_script contents (Convert matrix image) = false
 reaches_script contents (Scrub matrix image) = false
+reaches_script contents (Drill number) = false
 
 -- the same for the words' request
 abbrev pub words_reach_script : (List ℕ → List ℕ) → Option Request → Bool
@@ -81,6 +85,7 @@ asks_script (Some (Encode matrix payload stripes bytes)) = false
 asks_script (Some (Rebuild matrix image lost workers budget plan live)) = true
 asks_script (Some (Convert matrix image)) = false
 asks_script (Some (Scrub matrix image)) = false
+asks_script (Some (Drill number)) = false
 
 -- This is the answer to the words.
 pub record IsAnswer (words : List (List ℕ)) (contents : List ℕ → List ℕ) (left : List ℕ)

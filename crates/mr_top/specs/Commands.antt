@@ -4,9 +4,10 @@ use Rattle.std.specs.Prelude.{List, ℕ}
 use Rattle.mr_steps.specs.Readings.{Reading, given, ◌>>=◌}
 use Rattle.mr_steps.specs.Requests.{or_usage, rebuild_words, request_of}
 use Rattle.mr_steps.specs.declared.request.Request.{Request}
-use Rattle.mr_steps.specs.declared.request.Request.TheVariants.{Check, Convert, Encode, Make, Plan, Rebuild, Scrub}
+use Rattle.mr_steps.specs.declared.request.Request.TheVariants.{Check, Convert, Drill, Encode, Make, Plan, Rebuild, Scrub}
 use Rattle.mr_top.specs.CheckSteps.{check_answer}
 use Rattle.mr_top.specs.Convert.{convert_answer}
+use Rattle.mr_top.specs.Drill.{drill_given}
 use Rattle.mr_top.specs.EncodeSteps.{encode_answer}
 use Rattle.mr_top.specs.Findings.{Finding, to_write}
 use Rattle.mr_top.specs.Make.{make_given}
@@ -27,6 +28,7 @@ command_answer contents left (Rebuild matrix image lost workers budget plan live
 command_answer contents left (Convert matrix image) =
     to_write (convert_answer contents matrix image)
 command_answer contents left (Scrub matrix image) = to_write (scrub_answer contents matrix image)
+command_answer contents left (Drill number) = to_write (given (drill_given number))
 
 -- the answer to the words, over files with these contents and a script with these bytes left
 unfoldable pub answer : List (List ℕ) → (List ℕ → List ℕ) → List ℕ → Reading Finding

@@ -9,7 +9,7 @@ use Rattle.mr_steps.specs.Losses.{loss_accepted}
 use Rattle.mr_steps.specs.Texts.{matrix_given}
 use Rattle.mr_steps.specs.declared.fault.Fault.{Fault}
 use Rattle.mr_steps.specs.declared.request.Request.{Request}
-use Rattle.mr_steps.specs.declared.request.Request.TheVariants.{Check, Convert, Encode, Make, Plan, Rebuild, Scrub}
+use Rattle.mr_steps.specs.declared.request.Request.TheVariants.{Check, Convert, Drill, Encode, Make, Plan, Rebuild, Scrub}
 use Rattle.mr_top.specs.Convert.{first_accepted}
 use Rattle.mr_top.specs.Encode.{layout_accepted}
 use Rattle.mr_top.specs.Rebuild.{file_accepted, rebuild_accepted}
@@ -63,6 +63,7 @@ request_eyes contents left (Convert matrix image) =
 request_eyes contents left (Scrub matrix image) =
     whole_eyes matrix image (matrix_given (contents matrix))
     (either_accepted contents matrix image)
+request_eyes contents left (Drill number) = []
 
 -- the eyes of words: none where they are not read
 abbrev pub words_eyes : (List ℕ → List ℕ) → List ℕ → Option Request → List Asked
@@ -87,3 +88,4 @@ command_eyes (Some (Convert matrix image)) =
 command_eyes (Some (Scrub matrix image)) =
     record { name = matrix; duty = Text } ∷ record { name = image; duty = Head }
     ∷ record { name = image; duty = Copy } ∷ []
+command_eyes (Some (Drill number)) = []

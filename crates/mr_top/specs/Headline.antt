@@ -36,7 +36,7 @@ use Rattle.mr_steps.specs.declared.choice_line.ChoiceLine.{ChoiceLine}
 use Rattle.mr_steps.specs.declared.choice_line.ChoiceLine.TheVariants.{Given as GivenLine, Least as LeastLine, Spent as SpentLine}
 use Rattle.mr_steps.specs.declared.fault.Fault.TheVariants.{Undetermined, UndeterminedAt}
 use Rattle.mr_steps.specs.declared.request.Request.{Request}
-use Rattle.mr_steps.specs.declared.request.Request.TheVariants.{Check, Convert, Encode, Make, Plan, Rebuild, Scrub}
+use Rattle.mr_steps.specs.declared.request.Request.TheVariants.{Check, Convert, Drill, Encode, Make, Plan, Rebuild, Scrub}
 pub use Rattle.mr_steps.specs.Undetermined.{IsLeastUndetermined, IsRefused}
 use Rattle.mr_top.specs.Ran.{Ran, Wrote}
 use Rattle.mr_top.specs.Rebuild.{asks_given, head_given}
@@ -160,3 +160,4 @@ Headline (Rebuild matrix image lost workers budget plan live) contents left fail
     RebuildsRight contents left (rebuild_words matrix image lost workers budget plan live) failed ran
 Headline (Convert matrix image) contents left failed ran = ⊤
 Headline (Scrub matrix image) contents left failed ran = ScrubsRight contents matrix image ran
+Headline (Drill number) contents left failed ran = ⊤

@@ -10,6 +10,7 @@ pub mod Findings
 pub mod RebuildSteps
 pub mod WholeImages
 pub mod Convert
+pub mod Drill
 pub mod Scrub
 pub mod Answered
 pub mod Commands

@@ -16,7 +16,7 @@ use Rattle.mr_words.specs.declared.rebuild_words.RebuildWords.{RebuildWords}
 use Rattle.mr_steps.specs.Requests.{rebuild_words}
 use Rattle.mr_steps.specs.Refusals.{Gave}
 use Rattle.mr_steps.specs.declared.request.Request.{Request}
-use Rattle.mr_steps.specs.declared.request.Request.TheVariants.{Check, Convert, Encode, Make, Plan, Rebuild, Scrub}
+use Rattle.mr_steps.specs.declared.request.Request.TheVariants.{Check, Convert, Drill, Encode, Make, Plan, Rebuild, Scrub}
 use Rattle.mr_top.specs.Convert.{first_accepted}
 use Rattle.mr_top.specs.Rebuild.{RebuildAccepted, rebuild_accepted}
 use Rattle.mr_top.specs.Scrub.{either_accepted}
@@ -77,3 +77,4 @@ TookRight (Convert matrix image) contents left old new =
 TookRight (Scrub matrix image) contents left old new =
     Gave (either_accepted contents matrix image)
     (λ l. new ≡ grown old (whole_taken (length (contents matrix)) l))
+TookRight (Drill number) contents left old new = new ≡ grown old no_bytes

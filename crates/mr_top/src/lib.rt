@@ -5,6 +5,7 @@ mod asking;
 mod carrying;
 mod check;
 mod convert;
+mod drill;
 mod encode;
 mod image_head;
 mod image_read;

@@ -22,6 +22,7 @@ ghost use Rattle.mr_steps.specs.Steps.{EndsScript, FollowsWith, HasReadCauses, I
 use crate::carrying::carry_out;
 use crate::check::check;
 use crate::convert::convert;
+use crate::drill::drill;
 use crate::encode::encode;
 use crate::lent::{Lent, Tools};
 use crate::make::make;
@@ -297,6 +298,13 @@ fn answer_request<T: Threads + Sync, F: Files, S: Source, G: Gate + Sync>(
             replied(convert(lent, &ImageWords { matrix, image }))
         }
         Request::Scrub { matrix, image } => replied(scrub(lent, &ImageWords { matrix, image })),
+        Request::Drill { number } => replied(drill(
+            lent.tools.rt,
+            lent.tools.alloc,
+            lent.tools.gate,
+            lent.tools.kernel,
+            number,
+        )),
     }
 }
 

@@ -9,3 +9,4 @@ pub mod Texts
 pub mod Encode
 pub mod Rebuild
 pub mod ImageWords
+pub mod Drill

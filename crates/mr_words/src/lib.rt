@@ -2,13 +2,14 @@
 //!
 //! A command is a syntax (its places, its options with a value and its flags), the command of `clap` that
 //! `command_for` makes of the same names, and a reader of the values that the matches of `parse` have. The
-//! functions of `values` read one value each. `read_plan`, `read_check`, `read_make`, `read_encode`
-//! and `read_rebuild` are five commands, read so; `read_image_words` reads two that take the same words.
+//! functions of `values` read one value each. `read_plan`, `read_check`, `read_make`, `read_encode`,
+//! `read_rebuild` and `read_drill` are six commands, read so; `read_image_words` reads two that take the same words.
 #![tactic(auto)]
 
 mod check_words;
 mod code;
 mod command;
+mod drill_words;
 mod encode_words;
 mod errors;
 mod image_words;
@@ -22,6 +23,7 @@ pub mod values;
 pub use check_words::{CheckWords, read_check};
 pub use code::Code;
 pub use command::{command_for, flag, parse, place, valued};
+pub use drill_words::{DrillWords, read_drill};
 pub use encode_words::{EncodeWords, read_encode};
 pub use errors::WordsError;
 pub use image_words::{ImageWords, read_image_words};

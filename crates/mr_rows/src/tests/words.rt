@@ -199,8 +199,30 @@ rebuild m -i 0
 rebuild m i -1
 Rebuild m i 0";
 
+/// Words of `drill`: a place is missing or one too many, the number is none, and an option, of which the command has none.
+const DRILL: &str = "drill
+drill --
+drill 0 1
+drill -- 0 1
+drill 00
+drill 01
+drill 1000000000
+drill +1
+drill -1
+drill -- -1
+drill 0x1
+drill none
+drill -
+drill 0 --workers 4
+drill 0 --budget 0
+drill 0 --live
+drill --number 0
+drill --help
+drills 0
+Drill 0";
+
 /// No words, empty ones, and words with a space or a line feed.
-static ODD: [&[&str]; 26] = [
+static ODD: [&[&str]; 28] = [
     &[],
     &[""],
     &["plan ", "m", "0"],
@@ -227,6 +249,8 @@ static ODD: [&[&str]; 26] = [
     &["rebuild", "m", "i", "0", "--plan", ""],
     &["rebuild", "m", "i", "0, 1"],
     &["rebuild", "m", "i", "0\n"],
+    &["drill", ""],
+    &["drill", " 0"],
 ];
 
 /// A refusal of the words. No eye is asked for: the first would fail.
@@ -266,6 +290,7 @@ fn refusals(rt: HostRuntime) -> Result<(), Fail> {
     check_usages(&rt, rt.alloc(), MAKERS)?;
     check_usages(&rt, rt.alloc(), ENCODE)?;
     check_usages(&rt, rt.alloc(), REBUILD)?;
+    check_usages(&rt, rt.alloc(), DRILL)?;
     for words in &ODD {
         check_usage(&rt, rt.alloc(), words_of(rt.alloc(), words)?)?;
     }

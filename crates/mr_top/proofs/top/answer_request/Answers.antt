@@ -5,6 +5,7 @@ use Rattle.mr_mend.specs.Scripts.{script_limit}
 use Rattle.mr_top.specs.CheckSteps.{check_answer}
 use Rattle.mr_top.specs.Convert.{convert_answer}
 use Rattle.mr_top.specs.EncodeSteps.{encode_answer}
+use Rattle.mr_top.specs.Drill.{drill_given}
 use Rattle.mr_top.specs.Make.{make_given}
 use Rattle.mr_top.specs.PlanSteps.{plan_answer}
 use Rattle.mr_steps.specs.Readings.{given}
@@ -13,7 +14,7 @@ use Rattle.mr_top.specs.declared.outcome.Outcome.TheVariants.{Reply}
 use Rattle.mr_top.specs.Scrub.{scrub_answer}
 use Rattle.mr_steps.proofs.Chains.{reads_given}
 use Rattle.mr_steps.proofs.Growing.{grows_given}
-use Rattle.mr_top.proofs.WithScript.{with-reply, with-request}
+use Rattle.mr_top.proofs.WithScript.{replied-causes, with-reply, with-request}
 use Rattle.mr_top.proofs.top.answer_request.Goals as goal
 
 pub returns-in-Plan-clause-follows : goal.returns-in-Plan-clause-follows
@@ -66,3 +67,14 @@ returns-in-Convert-clause-script_front g c = subst (λ s. ReadsFront (g.S.Source
 pub returns-in-Scrub-clause-script_front : goal.returns-in-Scrub-clause-script_front
 returns-in-Scrub-clause-script_front g c = subst (λ s. ReadsFront (g.S.Source.left c.args.lent.now.script.now) (g.S.Source.left s) (script_limit + 1))
     (sym c.scrub.ensures.kept) (front_none _ _)
+
+pub returns-in-Drill-clause-follows : goal.returns-in-Drill-clause-follows
+returns-in-Drill-clause-follows g c = with-request g.F.E.Eye.sight _ _ _ _ _ _ _ _ c.in-Drill.is (with-reply g.F.E.Eye.sight _ _ _ _ _ c.drill.result c.replied-in-Drill.result
+    (λ _. given (drill_given c.in-Drill.number)) c.replied-in-Drill.ensures (reads_given output_of _ c.drill.result (drill_given c.in-Drill.number) c.drill.ensures.given)
+    (grows_given _ _ c.drill.result (drill_given c.in-Drill.number)))
+
+pub returns-in-Drill-clause-script_front : goal.returns-in-Drill-clause-script_front
+returns-in-Drill-clause-script_front g c = front_none _ _
+
+pub returns-in-Drill-clause-cause : goal.returns-in-Drill-clause-cause
+returns-in-Drill-clause-cause g c = replied-causes c.drill.result c.replied-in-Drill.result _ _ _ _ c.replied-in-Drill.ensures (c.drill.ensures.cause _ _)

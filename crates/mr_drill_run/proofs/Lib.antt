@@ -1,0 +1,11 @@
+mod ChoiceLaws
+mod CodeLaws
+mod DamageLaws
+mod DrawnLaws
+mod EyeLaws
+mod LeastLaws
+mod LeastPlans
+mod LineTexts
+mod RunLaws
+mod RunParts
+mod SinglesFor

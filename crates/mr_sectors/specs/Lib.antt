@@ -1,0 +1,4 @@
+pub mod Counts
+pub mod Repairs
+pub mod Steps
+pub mod Laws

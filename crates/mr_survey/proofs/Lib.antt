@@ -1,0 +1,2 @@
+pub mod SurveyLaws
+pub mod KnownLaws
