@@ -10,3 +10,4 @@ pub mod Encode
 pub mod Rebuild
 pub mod ImageWords
 pub mod Drill
+pub mod Sectors

@@ -3,7 +3,8 @@
 //! A command is a syntax (its places, its options with a value and its flags), the command of `clap` that
 //! `command_for` makes of the same names, and a reader of the values that the matches of `parse` have. The
 //! functions of `values` read one value each. `read_plan`, `read_check`, `read_make`, `read_encode`,
-//! `read_rebuild` and `read_drill` are six commands, read so; `read_image_words` reads two that take the same words.
+//! `read_rebuild`, `read_drill` and `read_sectors_words` are seven commands, read so; `read_image_words` reads two that
+//! take the same words.
 #![tactic(auto)]
 
 mod check_words;
@@ -18,6 +19,7 @@ mod lost;
 mod make_words;
 mod plan_words;
 mod rebuild_words;
+mod sectors_words;
 pub mod values;
 
 pub use check_words::{CheckWords, read_check};
@@ -32,3 +34,4 @@ pub use lost::{is_lost, lost_devices};
 pub use make_words::{MakeWords, read_make};
 pub use plan_words::{PlanWords, read_plan};
 pub use rebuild_words::{RebuildWords, read_rebuild};
+pub use sectors_words::{SectorsWords, read_sectors_words};
