@@ -13,7 +13,7 @@ use Rattle.mr_steps.specs.Readings.{Reading, file, given, ◌>>=◌}
 use Rattle.mr_steps.specs.Refusals.{Gave, followed_by, refusal_of}
 use Rattle.mr_steps.specs.Sinks.{Output}
 use Rattle.mr_steps.specs.Steps.{Reads}
-use Rattle.mr_steps.specs.TextFiles.{matrix_file, text_file}
+use Rattle.mr_steps.specs.TextFiles.{matrix_file, text_file, text_within}
 use Rattle.mr_steps.specs.Texts.{matrix_given, or_matrix_fault, within_limit}
 use Rattle.mr_steps.specs.declared.fault.Fault.{Fault}
 use Rattle.mr_steps.specs.declared.fault.Fault.TheVariants.{Usage}
@@ -67,7 +67,7 @@ answer-is words contents output (Some request) is e =
 -- ---- the eyes
 
 pub eyes-are : (contents : List ℕ → List ℕ) (o : Option TableWords) → (answer_to o contents).eyes ≡ eyes_of o
-unfolding table_answer matrix_file text_file
+unfolding table_answer matrix_file text_file text_within
 eyes-are contents None = refl
 eyes-are contents (Some words) =
     eyes-given {Y = Output} (matrix_file contents words.matrix) (λ m. Ok (table_output words.budget m))

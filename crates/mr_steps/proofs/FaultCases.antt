@@ -7,7 +7,7 @@ use Rattle.mr_steps.specs.Ran.{Ran}
 use Rattle.mr_steps.specs.Sinks.{IsReported, Output, Reports}
 use Rattle.mr_steps.specs.Steps.{IsForeseen}
 use Rattle.mr_steps.specs.declared.fault.Fault.{Fault}
-use Rattle.mr_steps.specs.declared.fault.Fault.TheVariants.{BadImage, BadMatrix, BadPlan, BadPlanLine, BadScript, Memory, NoDevice, ReadFault, TooLarge, Undetermined, UndeterminedAt, Usage, WriteFault}
+use Rattle.mr_steps.specs.declared.fault.Fault.TheVariants.{BadImage, BadMatrix, BadPlan, BadPlanLine, BadScript, BadSectors, Memory, NoDevice, ReadFault, TooLarge, Undetermined, UndeterminedAt, UndeterminedIn, Usage, WriteFault}
 
 foreseen-low : (n : ℕ) → n ≤ 8 → IsForeseen n
 foreseen-low n low = (λ e. omega (arith, low, e), λ e. omega (arith, low, e), λ e. omega (arith, low, e))
@@ -22,11 +22,13 @@ fault-cases (BadImage kind) = inl (foreseen-low 5 (omega arith))
 fault-cases (BadScript line) = inl (foreseen-low 6 (omega arith))
 fault-cases (Undetermined symbol) = inl (foreseen-low 7 (omega arith))
 fault-cases (UndeterminedAt rotation symbol) = inl (foreseen-low 7 (omega arith))
+fault-cases (UndeterminedIn stripe symbol) = inl (foreseen-low 7 (omega arith))
 fault-cases (BadPlanLine line) = inl (foreseen-low 8 (omega arith))
 fault-cases (BadPlan symbol why) = inl (foreseen-low 8 (omega arith))
 fault-cases ReadFault = inr (inl refl)
 fault-cases WriteFault = inr (inr (inl refl))
 fault-cases Memory = inr (inr (inr refl))
+fault-cases (BadSectors line) = inl (λ e. omega (arith, e), λ e. omega (arith, e), λ e. omega (arith, e))
 
 -- no fault has the status 0
 pub fault-positive : (fault : Fault) → 1 ≤ fault_status fault
@@ -38,11 +40,13 @@ fault-positive (BadImage kind) = omega arith
 fault-positive (BadScript line) = omega arith
 fault-positive (Undetermined symbol) = omega arith
 fault-positive (UndeterminedAt rotation symbol) = omega arith
+fault-positive (UndeterminedIn stripe symbol) = omega arith
 fault-positive (BadPlanLine line) = omega arith
 fault-positive (BadPlan symbol why) = omega arith
 fault-positive ReadFault = omega arith
 fault-positive WriteFault = omega arith
 fault-positive Memory = omega arith
+fault-positive (BadSectors line) = omega arith
 
 -- the status 10 is that of a failed write
 pub is-write : (fault : Fault) → fault_status fault ≡ 10 → fault ≡ WriteFault

@@ -12,7 +12,7 @@ use Rattle.mr_form.proofs.Readings.{matrix_of-limits}
 use Rattle.mr_plan.specs.Plans.{survivors}
 use Rattle.mr_steps.specs.Losses.{loss_of, lost_given, symbols_of_devices, targets_given, unless_symbol}
 use Rattle.mr_steps.specs.Readings.{given}
-use Rattle.mr_steps.specs.TextFiles.{matrix_file, text_file}
+use Rattle.mr_steps.specs.TextFiles.{matrix_file, text_file, text_within}
 use Rattle.mr_steps.specs.Texts.{matrix_given, or_matrix_fault, within_limit}
 use Rattle.mr_steps.specs.declared.fault.Fault.{Fault}
 use Rattle.mr_losses.proofs.LostSymbols.{lost-below}
@@ -22,7 +22,7 @@ use Rattle.mr_steps.proofs.Results.{gave-then, ok-same, result-as}
 -- ---- files
 
 pub text-is : (contents : List ℕ → List ℕ) (name : List ℕ) (what : What) → (text_file contents name what).result ≡ within_limit what (contents name)
-unfolding text_file
+unfolding text_file text_within
 text-is contents name what = refl
 
 pub matrix-is : (contents : List ℕ → List ℕ) (name : List ℕ) → (matrix_file contents name).result ≡ matrix_given (contents name)

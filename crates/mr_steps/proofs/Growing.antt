@@ -1,17 +1,17 @@
 -- How the bytes that steps take add up in the totals.
-use Rattle.std.proofs.Common.{◌≡◌, ℕ, option_map, List, Option, Result, Ok, Err, refl, sym, ◌∙◌, ap, subst, ◌++◌}
+use Rattle.std.proofs.Common.{◌≡◌, ℕ, option_map, List, Option, Some, None, Result, Ok, Err, refl, sym, ◌∙◌, ap, subst, ◌++◌}
 use Rattle.std.specs.Prelude.{OnOk}
 use Rattle.std.specs.Option.{ForSome}
 use Rattle.mr_io.specs.Growth.{added, bytes_of, grown, no_bytes}
 use Rattle.mr_io.specs.Sights.{Sight, fresh_sight, sight_with}
-use Rattle.mr_io.specs.Telling.{Told, told_giving}
+use Rattle.mr_io.specs.Telling.{Told, told_giving, told_retiring}
 use Rattle.mr_io.specs.TotalsBy.{totals_with}
 use Rattle.mr_io.specs.declared.duty.Duty.{Duty}
 use Rattle.mr_io.specs.declared.duty.Duty.TheVariants.{Text, Head}
 use Rattle.mr_io.specs.declared.totals.Totals.{Totals}
 use Rattle.mr_io.proofs.Growth.{added-swap, grown-grown, grown-none, grown-retired}
 use Rattle.mr_steps.specs.Readings.{Reading, and_then, file_taking, given, ◌>>=◌}
-use Rattle.mr_steps.specs.Steps.{Grows, IsUnread, Reads}
+use Rattle.mr_steps.specs.Steps.{Grows, IsUnread, KeepsContents, Reads}
 use Rattle.mr_steps.specs.declared.fault.Fault.{Fault}
 
 -- a step that reads nothing
@@ -74,6 +74,18 @@ grows_held old lent t0 t1 t2 t3 name duty bytes fresh sight count (Ok x) next gi
     back ∙ ap (λ s. totals_with t2 s.duty s.taken) (read ∙ ap (λ s. sight_with s count) is) ∙ grown-retired t2 duty count
     ∙ ap (λ t. grown t (bytes_of duty count)) between ∙ grown-grown t0 more (bytes_of duty count) ∙ ap (grown t0) (added-swap more (bytes_of duty count))
 grows_held old lent t0 t1 t2 t3 name duty bytes fresh sight count (Err fault) next giving same is read grows back = tt
+
+-- what is held after an eye was lent and given back
+pub kept-lent : {X : Type 0} (result : Result X Fault) (old lent new : Option Told) (name : List ℕ) (duty : Duty)
+    → lent ≡ option_map (told_giving name duty) old → new ≡ option_map told_retiring lent → OnOk result (KeepsContents old new)
+kept-lent (Ok x) old lent new name duty giving retiring =
+    ap (option_map (λ told. told.contents)) (retiring ∙ ap (option_map told_retiring) giving) ∙ same old
+  where
+    same : (o : Option Told) → option_map (λ told. told.contents) (option_map told_retiring (option_map (told_giving name duty) o))
+        ≡ option_map (λ told. told.contents) o
+    same None = refl
+    same (Some told) = refl
+kept-lent (Err fault) old lent new name duty giving retiring = tt
 
 -- ---- what is left unread
 

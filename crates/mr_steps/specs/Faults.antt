@@ -17,7 +17,7 @@ use Rattle.mr_plan.specs.declared.errors.Why.TheVariants.{Missing as IsMissing, 
 use Rattle.mr_words.specs.declared.errors.WordsError.{WordsError}
 use Rattle.mr_words.specs.declared.errors.WordsError.TheVariants.{Memory as WantsMemory, Usage as IsUsage}
 use Rattle.mr_steps.specs.declared.fault.Fault.{Fault}
-use Rattle.mr_steps.specs.declared.fault.Fault.TheVariants.{BadImage, BadMatrix, BadPlan, BadPlanLine, BadScript, Memory, NoDevice, ReadFault, TooLarge, Undetermined, UndeterminedAt, Usage, WriteFault}
+use Rattle.mr_steps.specs.declared.fault.Fault.TheVariants.{BadImage, BadMatrix, BadPlan, BadPlanLine, BadScript, BadSectors, Memory, NoDevice, ReadFault, TooLarge, Undetermined, UndeterminedAt, UndeterminedIn, Usage, WriteFault}
 
 abbrev pub fault_status : Fault → ℕ
 fault_status Usage = 1
@@ -28,11 +28,13 @@ fault_status (BadImage kind) = 5
 fault_status (BadScript line) = 6
 fault_status (Undetermined symbol) = 7
 fault_status (UndeterminedAt rotation symbol) = 7
+fault_status (UndeterminedIn stripe symbol) = 7
 fault_status (BadPlanLine line) = 8
 fault_status (BadPlan symbol why) = 8
 fault_status ReadFault = 9
 fault_status WriteFault = 10
 fault_status Memory = 11
+fault_status (BadSectors line) = 12
 
 abbrev pub kind_name : LineKind → List ℕ
 kind_name Missing = codes "missing"
@@ -91,6 +93,9 @@ fault_line (Undetermined symbol) =
 fault_line (UndeterminedAt rotation symbol) =
     joined (codes "status 7 undetermined rotation " ∷ decimal rotation ∷ codes " symbol "
     ∷ decimal symbol ∷ codes "\n" ∷ [])
+fault_line (UndeterminedIn stripe symbol) =
+    joined (codes "status 7 undetermined stripe " ∷ decimal stripe ∷ codes " symbol "
+    ∷ decimal symbol ∷ codes "\n" ∷ [])
 fault_line (BadPlanLine line) =
     joined (codes "status 8 plan line " ∷ decimal line ∷ codes "\n" ∷ [])
 fault_line (BadPlan symbol why) =
@@ -99,6 +104,8 @@ fault_line (BadPlan symbol why) =
 fault_line ReadFault = codes "status 9 read\n"
 fault_line WriteFault = codes "status 10 write\n"
 fault_line Memory = codes "status 11 memory\n"
+fault_line (BadSectors line) =
+    joined (codes "status 12 sectors line " ∷ decimal line ∷ codes "\n" ∷ [])
 
 -- the fault of a text that is no matrix
 abbrev pub matrix_fault : MatrixFault → Fault

@@ -19,6 +19,12 @@ or_no_device (Err number) = Err (NoDevice number)
 unfoldable pub lost_given : ℕ → List ℕ → Result ℕ Fault
 lost_given count lost = or_no_device (devices_of count (lost_numbers (encode_utf8_all lost)))
 
+-- the symbols of the devices of a LOST word
+unfoldable pub lost_symbols_given : Code → List ℕ → Result ℕ Fault
+lost_symbols_given m lost = do
+  devices ← lost_given m.devices lost
+  Ok (symbols_of_devices m devices)
+
 -- the loss of these symbols of a code: all others survive
 abbrev pub loss_of : Code → ℕ → Loss
 loss_of m targets = record { code = m; avail = survivors m targets; targets = targets }

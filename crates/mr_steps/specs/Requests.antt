@@ -8,6 +8,7 @@ use Rattle.mr_words.specs.ImageWords.{image_words_of}
 use Rattle.mr_words.specs.Make.{make_of}
 use Rattle.mr_words.specs.Plan.{plan_of}
 use Rattle.mr_words.specs.Rebuild.{rebuild_of}
+use Rattle.mr_words.specs.Sectors.{sectors_words_of}
 use Rattle.mr_words.specs.Texts.{IsWorkers, primes_of}
 use Rattle.mr_words.specs.declared.check_words.CheckWords.{CheckWords}
 use Rattle.mr_words.specs.declared.code.Code.{Code}
@@ -17,10 +18,11 @@ use Rattle.mr_words.specs.declared.image_words.ImageWords.{ImageWords}
 use Rattle.mr_words.specs.declared.make_words.MakeWords.{MakeWords}
 use Rattle.mr_words.specs.declared.plan_words.PlanWords.{PlanWords}
 use Rattle.mr_words.specs.declared.rebuild_words.RebuildWords.{RebuildWords}
+use Rattle.mr_words.specs.declared.sectors_words.SectorsWords.{SectorsWords}
 use Rattle.mr_steps.specs.declared.fault.Fault.{Fault}
 use Rattle.mr_steps.specs.declared.fault.Fault.TheVariants.{Usage}
 use Rattle.mr_steps.specs.declared.request.Request.{Request}
-use Rattle.mr_steps.specs.declared.request.Request.TheVariants.{Check, Convert, Drill, Encode, Make, Plan, Rebuild, Scrub}
+use Rattle.mr_steps.specs.declared.request.Request.TheVariants.{Check, Convert, Drill, Encode, Make, Plan, Rebuild, Scrub, Sectors}
 
 -- the request that the words of each command make
 abbrev pub plan_request : PlanWords → Request
@@ -44,6 +46,10 @@ convert_request words = Convert words.matrix words.image
 
 abbrev pub scrub_request : ImageWords → Request
 scrub_request words = Scrub words.matrix words.image
+
+abbrev pub sectors_request : SectorsWords → Request
+sectors_request words =
+    Sectors words.matrix words.image words.lost words.bad words.budget
 
 abbrev pub drill_request : DrillWords → Request
 drill_request words = Drill words.number
@@ -70,6 +76,9 @@ convert_request_of words = option_map convert_request (image_words_of (drop 1 wo
 abbrev pub scrub_request_of : List (List ℕ) → Option Request
 scrub_request_of words = option_map scrub_request (image_words_of (drop 1 words))
 
+abbrev pub sectors_request_of : List (List ℕ) → Option Request
+sectors_request_of words = option_map sectors_request (sectors_words_of (drop 1 words))
+
 abbrev pub drill_request_of : List (List ℕ) → Option Request
 drill_request_of words = option_map drill_request (drill_of (drop 1 words))
 
@@ -82,6 +91,7 @@ command_request command words =
     else if bytes_eq command (codes "rebuild") then rebuild_request_of words
     else if bytes_eq command (codes "convert") then convert_request_of words
     else if bytes_eq command (codes "scrub") then scrub_request_of words
+    else if bytes_eq command (codes "sectors") then sectors_request_of words
     else if bytes_eq command (codes "drill") then drill_request_of words
     else None
 
@@ -104,6 +114,7 @@ IsRequest (Encode matrix payload stripes bytes) = ⊤
 IsRequest (Rebuild matrix image lost workers budget plan live) = IsWorkers workers
 IsRequest (Convert matrix image) = ⊤
 IsRequest (Scrub matrix image) = ⊤
+IsRequest (Sectors matrix image lost bad budget) = ⊤
 IsRequest (Drill number) = ⊤
 
 -- the words of a rebuild

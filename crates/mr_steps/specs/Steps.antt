@@ -1,6 +1,6 @@
 -- What a step of the program keeps to: its definition, and the cause of a failed read.
 use Rattle.std.specs.Option.{ForSome}
-use Rattle.std.specs.Prelude.{Err, IsErrOf, IsOk, List, Ok, OnOk, Option, Result, Some, [], false, is_ok, ℕ, ◌≡◌, ◌≢◌, ◌≤◌, ◌⊎◌}
+use Rattle.std.specs.Prelude.{Err, IsErrOf, IsOk, List, Ok, OnOk, Option, Result, Some, [], false, is_ok, option_map, ℕ, ◌≡◌, ◌≢◌, ◌≤◌, ◌⊎◌}
 use Rattle.mr_io.specs.Counts.{Rose}
 use Rattle.mr_io.specs.Growth.{grown}
 use Rattle.mr_io.specs.Telling.{AsksFront, Told, told_asking}
@@ -41,6 +41,11 @@ abbrev pub Grows : {X Y : Type 0} → Option Told → Totals → Totals → Resu
     → ((List ℕ → List ℕ) → Reading Y) → Type 0
 Grows told old new result definition =
     OnOk result (ForSome told (λ t. new ≡ grown old (definition t.contents).taken))
+
+-- where the files tell, they hold what they held
+abbrev pub KeepsContents : Option Told → Option Told → Type 0
+KeepsContents old new =
+    option_map (λ told. told.contents) new ≡ option_map (λ told. told.contents) old
 
 -- No byte behind the head of an image was read: to mend it, for replies or to be copied.
 pub record IsUnread (old new : Totals) : Type 0 where

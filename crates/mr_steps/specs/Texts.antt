@@ -14,10 +14,14 @@ use Rattle.mr_steps.specs.declared.fault.Fault.TheVariants.{TooLarge}
 abbrev pub text_limit : ℕ
 text_limit = 65536
 
+-- bytes that are not more than a limit
+abbrev pub within : ℕ → What → List ℕ → Result (List ℕ) Fault
+within limit what bytes =
+    if nat_le (length bytes) limit then Ok bytes else Err (TooLarge what (length bytes))
+
 -- bytes of a text file that are not too many
 abbrev pub within_limit : What → List ℕ → Result (List ℕ) Fault
-within_limit what bytes =
-    if nat_le (length bytes) text_limit then Ok bytes else Err (TooLarge what (length bytes))
+within_limit = within text_limit
 
 -- a matrix, or the refusal of a text that is none
 abbrev pub or_matrix_fault : Result Code MatrixFault → Result Code Fault

@@ -36,6 +36,9 @@ pub enum Fault {
     /// The survivors do not determine the lost symbols in a rotation of the matrix: the least such
     /// rotation, and the least symbol that they do not in it.
     UndeterminedAt { rotation: u32, symbol: u8 },
+    /// The symbols of a stripe that can be read do not determine those that fail: the first such stripe,
+    /// and the least symbol of it that they do not.
+    UndeterminedIn { stripe: u32, symbol: u8 },
     /// The bytes of the plan file are no plan text: the first bad line, from 1.
     BadPlanLine { line: u32 },
     /// The plan is not valid for the matrix and the lost symbols: its first fault, and the symbol
@@ -47,10 +50,13 @@ pub enum Fault {
     WriteFault,
     /// There was no memory.
     Memory,
+    /// The bytes of a list of symbols that cannot be read are none of the image: the first bad line,
+    /// from 1.
+    BadSectors { line: u32 },
 }
 
 impl Fault {
-    /// The exit status, from 1 to 11.
+    /// The exit status, from 1 to 12.
     pub fn status(&self) -> u8
         ensures { result ≡ fault_status self.now }
     {
@@ -61,11 +67,14 @@ impl Fault {
             Fault::NoDevice { .. } => 4,
             Fault::BadImage { .. } => 5,
             Fault::BadScript { .. } => 6,
-            Fault::Undetermined { .. } | Fault::UndeterminedAt { .. } => 7,
+            Fault::Undetermined { .. }
+            | Fault::UndeterminedAt { .. }
+            | Fault::UndeterminedIn { .. } => 7,
             Fault::BadPlanLine { .. } | Fault::BadPlan { .. } => 8,
             Fault::ReadFault => 9,
             Fault::WriteFault => 10,
             Fault::Memory => 11,
+            Fault::BadSectors { .. } => 12,
         }
     }
 
@@ -85,11 +94,13 @@ impl Fault {
             Fault::UndeterminedAt { rotation, symbol } => {
                 print_rotation(*rotation, *symbol, out)
             }
+            Fault::UndeterminedIn { stripe, symbol } => print_stripe(*stripe, *symbol, out),
             Fault::BadPlanLine { line } => print_plan_line(*line, out),
             Fault::BadPlan { symbol, why } => print_plan_fault(*symbol, *why, out),
             Fault::ReadFault => put_all(out, b"status 9 read\n"),
             Fault::WriteFault => put_all(out, b"status 10 write\n"),
             Fault::Memory => put_all(out, b"status 11 memory\n"),
+            Fault::BadSectors { line } => print_sectors_line(*line, out),
         }
     }
 }
@@ -202,6 +213,26 @@ fn print_rotation<K: Sink>(rotation: u32, symbol: u8, out: &mut K) -> Result<(),
     )
 }
 
+fn print_stripe<K: Sink>(stripe: u32, symbol: u8, out: &mut K) -> Result<(), Failed>
+    ensures puts { Puts (K.held out.old) (K.held out.new) result
+        (fault_line (Fault.UndeterminedIn stripe symbol)) }
+    ensures cause { HasCause (K.faults out.old) (K.faults out.new) result }
+{
+    let (mut first, mut second) = (Buffer::new(), Buffer::new());
+    let stripe = first.format(stripe).as_bytes();
+    let symbol = second.format(symbol).as_bytes();
+    put_pieces(
+        out,
+        &[
+            b"status 7 undetermined stripe ",
+            stripe,
+            b" symbol ",
+            symbol,
+            b"\n",
+        ],
+    )
+}
+
 fn print_plan_line<K: Sink>(line: u32, out: &mut K) -> Result<(), Failed>
     ensures puts { Puts (K.held out.old) (K.held out.new) result
         (fault_line (Fault.BadPlanLine line)) }
@@ -231,6 +262,22 @@ fn print_plan_fault<K: Sink>(symbol: u8, why: Why, out: &mut K) -> Result<(), Fa
             digits.format(symbol).as_bytes(),
             b" ",
             why_text(why),
+            b"\n",
+        ],
+    )
+}
+
+fn print_sectors_line<K: Sink>(line: u32, out: &mut K) -> Result<(), Failed>
+    ensures puts { Puts (K.held out.old) (K.held out.new) result
+        (fault_line (Fault.BadSectors line)) }
+    ensures cause { HasCause (K.faults out.old) (K.faults out.new) result }
+{
+    let mut digits = Buffer::new();
+    put_pieces(
+        out,
+        &[
+            b"status 12 sectors line ",
+            digits.format(line).as_bytes(),
             b"\n",
         ],
     )

@@ -12,8 +12,8 @@ mod words;
 
 pub use choice_line::ChoiceLine;
 pub use fault::Fault;
-pub use loss::loss_in;
+pub use loss::{loss_in, lost_in};
 pub use refusing::refuse;
 pub use request::Request;
-pub use text::{file_text, matrix_text};
+pub use text::{file_text, file_within, matrix_text};
 pub use words::read_words;

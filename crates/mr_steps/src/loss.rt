@@ -1,7 +1,7 @@
 //! The loss that a LOST word names: the symbols of the lost devices, to be read from the others.
 
 ghost use Rattle.std.specs.Prelude.{◌≡◌, ◌≤◌, ◌^◌, ◌<◌, length, IfOk};
-ghost use Rattle.mr_steps.specs.Losses.{determined_given, loss_of, lost_given, targets_given};
+ghost use Rattle.mr_steps.specs.Losses.{determined_given, loss_of, lost_given, lost_symbols_given, targets_given};
 ghost use Rattle.mr_steps.specs.Steps.{Gives, HasReadCause, IsPastWords};
 
 use crate::fault::Fault;
@@ -22,6 +22,18 @@ pub fn loss_in(matrix: &Matrix, lost: &Text) -> Result<Problem, Fault>
     let devices = lost_devices(lost, matrix.shape().n())?;
     let targets = symbols_of(matrix, devices);
     problem_of(matrix, targets)
+}
+
+/// The symbols of the lost devices. `NoDevice` names the first number that is no device of the matrix.
+#[tactic(auto, unfolding(crate::specs::Losses::lost_symbols_given))]
+pub fn lost_in(matrix: &Matrix, lost: &Text) -> Result<Mask, Fault>
+    ensures given { Gives (λ symbols. symbols) result (lost_symbols_given matrix.now lost.now) }
+    ensures below { IfOk result (λ symbols. symbols < 2 ^ length matrix.now.rows) }
+    ensures cause { HasReadCause 0 0 result }
+    ensures past_words { IsPastWords result }
+{
+    let devices = lost_devices(lost, matrix.shape().n())?;
+    Ok(symbols_of(matrix, devices))
 }
 
 /// The set of the devices that a LOST word names, of at most 128 devices. `NoDevice` names the

@@ -1,7 +1,9 @@
 //! What the words of the command line ask for.
 
 use mr_io::Text;
-use mr_words::{CheckWords, Code, DrillWords, EncodeWords, MakeWords, PlanWords, RebuildWords};
+use mr_words::{
+    CheckWords, Code, DrillWords, EncodeWords, MakeWords, PlanWords, RebuildWords, SectorsWords,
+};
 
 /// What the words of the command line ask for.
 #[derive(Debug, Drop)]
@@ -54,6 +56,15 @@ pub enum Request {
     Scrub {
         matrix: Text,
         image: Text,
+    },
+    /// An image file in which the symbols of the lost devices and those that a file lists are mended, for
+    /// a matrix file, each stripe by a plan within this budget.
+    Sectors {
+        matrix: Text,
+        image: Text,
+        lost: Text,
+        bad: Text,
+        budget: u32,
     },
     /// The drill of this number, over an image that it makes in memory.
     Drill {
@@ -150,6 +161,23 @@ impl From<DrillWords> for Request {
     fn from(words: DrillWords) -> Request {
         Request::Drill {
             number: words.number,
+        }
+    }
+}
+
+impl From<SectorsWords> for Request {
+    ghost use Rattle.std.specs.Prelude.{◌≡◌};
+    ghost use Rattle.mr_steps.specs.Requests.{sectors_request};
+
+    ghost from_gives = { λ words request. request ≡ sectors_request words };
+
+    fn from(words: SectorsWords) -> Request {
+        Request::Sectors {
+            matrix: words.matrix,
+            image: words.image,
+            lost: words.lost,
+            bad: words.bad,
+            budget: words.budget,
         }
     }
 }

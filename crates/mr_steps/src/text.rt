@@ -1,13 +1,13 @@
-//! The texts that a command reads: whole files of at most 65,536 bytes.
+//! The texts that a command reads: whole files of at most 65,536 bytes, or of at most so many as are named.
 
 ghost use Rattle.std.specs.Prelude.{◌≡◌, ℕ, ◌≤◌, List, chars, length, Option, OnOk, IfOk};
 ghost use Rattle.std.specs.Option.{ForSome};
 ghost use Rattle.mr_bits.specs.Matrices.{IsMatrixCode};
 ghost use Rattle.mr_form.specs.MatrixText.{matrix_of};
 ghost use Rattle.mr_io.specs.Sights.{Sight, sight_with};
-ghost use Rattle.mr_steps.specs.TextFiles.{matrix_file, text_file};
-ghost use Rattle.mr_steps.specs.Texts.{or_matrix_fault, text_limit, within_limit};
-ghost use Rattle.mr_steps.specs.Steps.{Gives, Grows, HasReadCause, IsPastWords, IsUnread, Reads};
+ghost use Rattle.mr_steps.specs.TextFiles.{matrix_file, text_file, text_within};
+ghost use Rattle.mr_steps.specs.Texts.{or_matrix_fault, text_limit, within};
+ghost use Rattle.mr_steps.specs.Steps.{Gives, Grows, HasReadCause, IsPastWords, IsUnread, KeepsContents, Reads};
 
 use crate::fault::Fault;
 use mr_bits::{Matrix, What};
@@ -16,7 +16,31 @@ use mr_io::{Duty, Eye, Files, Text};
 use std::alloc::Global;
 
 /// The most bytes of a text file.
-const TEXT_LIMIT: u64 = 65_536;
+const TEXT_LIMIT: u32 = 65_536;
+
+/// The bytes of a text file of at most `limit` bytes. The eye is given back on each way out.
+pub fn file_within<F: Files>(
+    alloc: Global,
+    files: &mut F,
+    name: &Text,
+    what: What,
+    limit: u32,
+) -> Result<Vec<u8>, Fault>
+    ensures reads { Reads (λ bytes. bytes.items) (F.told files.old) (F.told files.new) result
+        (λ contents. text_within limit contents name.now what) }
+    ensures totals { Grows (F.told files.old) (F.totals files.old) (F.totals files.new) result
+        (λ contents. text_within limit contents name.now what) }
+    ensures unread { IsUnread (F.totals files.old) (F.totals files.new) }
+    ensures kept { OnOk result (KeepsContents (F.told files.old) (F.told files.new)) }
+    ensures short { IfOk result (λ bytes. length bytes.items ≤ limit) }
+    ensures cause { HasReadCause (F.faults files.old) (F.faults files.new) result }
+    ensures past_words { IsPastWords result }
+{
+    let mut eye = files.eye(name.as_str(), Duty::Text)?;
+    let bytes = all_bytes(alloc, &mut eye, what, limit);
+    files.retire(eye);
+    bytes
+}
 
 /// The bytes of a text file. The eye is given back on each way out.
 pub fn file_text<F: Files>(
@@ -34,17 +58,14 @@ pub fn file_text<F: Files>(
     ensures cause { HasReadCause (F.faults files.old) (F.faults files.new) result }
     ensures past_words { IsPastWords result }
 {
-    let mut eye = files.eye(name.as_str(), Duty::Text)?;
-    let bytes = all_bytes(alloc, &mut eye, what);
-    files.retire(eye);
-    bytes
+    file_within(alloc, files, name, what, TEXT_LIMIT)
 }
 
 /// The bytes behind an eye, where they are not too many.
-fn all_bytes<E: Eye>(alloc: Global, eye: &mut E, what: What) -> Result<Vec<u8>, Fault>
+fn all_bytes<E: Eye>(alloc: Global, eye: &mut E, what: What, limit: u32) -> Result<Vec<u8>, Fault>
     ensures given { ForSome (E.sight eye.old).bytes (λ bytes. Gives (λ v. v.items) result
-        (within_limit what bytes)) }
-    ensures short { IfOk result (λ bytes. length bytes.items ≤ text_limit) }
+        (within limit what bytes)) }
+    ensures short { IfOk result (λ bytes. length bytes.items ≤ limit) }
     ensures taken { OnOk result (ForSome (E.sight eye.old).bytes
         (λ bytes. E.sight eye.new ≡ sight_with (E.sight eye.old) (length bytes))) }
     ensures duty { (E.sight eye.new).duty ≡ (E.sight eye.old).duty }
@@ -52,7 +73,7 @@ fn all_bytes<E: Eye>(alloc: Global, eye: &mut E, what: What) -> Result<Vec<u8>, 
     ensures past_words { IsPastWords result }
 {
     let length = eye.len()?;
-    if length > TEXT_LIMIT {
+    if length > u64::from(limit) {
         return Err(Fault::TooLarge {
             what,
             number: length,

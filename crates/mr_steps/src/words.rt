@@ -2,12 +2,12 @@
 
 ghost use Rattle.std.specs.Prelude.{◌≡◌, map, string_bytes, IfOk};
 ghost use Rattle.mr_words.specs.Reads.{Reads};
-ghost use Rattle.mr_steps.specs.Requests.{IsRequest, check_request_of, command_request, convert_request_of, drill_request_of, encode_request_of, make_request_of, plan_request_of, rebuild_request_of, request_of, scrub_request_of};
+ghost use Rattle.mr_steps.specs.Requests.{IsRequest, check_request_of, command_request, convert_request_of, drill_request_of, encode_request_of, make_request_of, plan_request_of, rebuild_request_of, request_of, scrub_request_of, sectors_request_of};
 
 use crate::request::Request;
 use mr_words::{
     ImageWords, WordsError, read_check, read_drill, read_encode, read_image_words, read_make,
-    read_plan, read_rebuild,
+    read_plan, read_rebuild, read_sectors_words,
 };
 use std::alloc::Global;
 
@@ -37,6 +37,7 @@ fn read_command(alloc: Global, command: &str, words: &[String]) -> Result<Reques
         "rebuild" => read_rebuild_request(alloc, words),
         "convert" => read_convert_request(alloc, words),
         "scrub" => read_scrub_request(alloc, words),
+        "sectors" => read_sectors_request(alloc, words),
         "drill" => read_drill_request(alloc, words),
         _ => Err(WordsError::Usage),
     }
@@ -108,6 +109,16 @@ fn read_scrub_request(alloc: Global, words: &[String]) -> Result<Request, WordsE
 {
     match read_image_words(alloc, "scrub", words) {
         Ok(ImageWords { matrix, image }) => Ok(Request::Scrub { matrix, image }),
+        Err(error) => Err(error),
+    }
+}
+
+fn read_sectors_request(alloc: Global, words: &[String]) -> Result<Request, WordsError>
+    ensures reads { Reads (sectors_request_of (map string_bytes words.now)) result }
+    ensures makes { IfOk result IsRequest }
+{
+    match read_sectors_words(alloc, words) {
+        Ok(words) => Ok(Request::from(words)),
         Err(error) => Err(error),
     }
 }

@@ -12,7 +12,7 @@ use Rattle.mr_io.specs.declared.totals.Totals.{Totals}
 use Rattle.mr_mend.specs.declared.asks.Ask.{Ask}
 use Rattle.mr_io.specs.declared.duty.Duty.TheVariants.{Text, Head, Copy}
 use Rattle.mr_steps.specs.Sinks.{Output}
-use Rattle.mr_steps.specs.TextFiles.{matrix_file, text_file}
+use Rattle.mr_steps.specs.TextFiles.{matrix_file, text_file, text_within}
 use Rattle.mr_steps.specs.Texts.{or_matrix_fault}
 use Rattle.mr_top.specs.CheckSteps.{check_answer}
 use Rattle.mr_top.specs.Commands.{answer, command_answer}
@@ -48,7 +48,7 @@ use Rattle.mr_top.specs.Scrub.{scrub_output}
 use Rattle.mr_top.proofs.WholeImages.{body_next, layout_next, spelled_next}
 
 eyes-text_file : (contents : List ℕ → List ℕ) (name : List ℕ) → (text_file contents name MatrixBytes).eyes ≡ record { name = name; duty = Text } ∷ []
-unfolding text_file
+unfolding text_file text_within
 eyes-text_file contents name = refl
 
 pub eyes-matrix_file : (contents : List ℕ → List ℕ) (name : List ℕ) → (matrix_file contents name).eyes ≡ record { name = name; duty = Text } ∷ []
@@ -89,7 +89,7 @@ eyes-given_more {X} {Y} reading next none = go reading.result
     go (Err fault) = refl
 
 pub eyes-text : (contents : List ℕ → List ℕ) (name : List ℕ) (what : What) → (text_file contents name what).eyes ≡ record { name = name; duty = Text } ∷ []
-unfolding text_file
+unfolding text_file text_within
 eyes-text contents name what = refl
 
 front-check_answer : (contents : List ℕ → List ℕ) (matrix lost plan : List ℕ)

@@ -37,7 +37,7 @@ use Rattle.mr_steps.specs.Refusals.{Gave, followed_by}
 use Rattle.mr_steps.proofs.Results.{gave-on, ok-same}
 use Rattle.mr_top.specs.Rebuild.{RebuildAccepted, layout_allowed, rebuild_accepted, asks_given, rebuild_of_parts, head_given}
 use Rattle.mr_steps.specs.Sinks.{Output}
-use Rattle.mr_steps.specs.TextFiles.{matrix_file, text_file}
+use Rattle.mr_steps.specs.TextFiles.{matrix_file, text_file, text_within}
 use Rattle.mr_steps.specs.Texts.{or_matrix_fault, matrix_given}
 use Rattle.mr_top.specs.CheckSteps.{check_answer}
 use Rattle.mr_top.specs.Commands.{answer, command_answer}
@@ -101,7 +101,7 @@ abbrev text_taken : (List ℕ → List ℕ) → List ℕ → Totals
 text_taken contents name = added (bytes_of Text (length (contents name))) no_bytes
 
 takes-text : (contents : List ℕ → List ℕ) (name : List ℕ) (what : What) → TakesBytes (text_file contents name what) (text_taken contents name)
-unfolding text_file
+unfolding text_file text_within
 takes-text contents name what = λ x e. refl
 
 abbrev matrix_taken : (List ℕ → List ℕ) → List ℕ → Totals
