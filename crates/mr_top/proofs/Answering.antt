@@ -22,6 +22,8 @@ use Rattle.mr_top.specs.Drill.{drill_given}
 use Rattle.mr_top.specs.Make.{make_given}
 use Rattle.mr_top.specs.PlanSteps.{plan_answer}
 use Rattle.mr_top.specs.Scrub.{scrub_answer}
+use Rattle.mr_top.specs.Sectors.{repair_written, sectors_words}
+use Rattle.mr_top.specs.SectorsSteps.{sectors_answer}
 use Rattle.mr_top.specs.Check.{check_written}
 use Rattle.mr_top.specs.Encode.{image_written}
 use Rattle.mr_top.specs.Plan.{plan_written}
@@ -31,11 +33,12 @@ use Rattle.mr_steps.specs.Requests.{or_usage, rebuild_words, request_of}
 use Rattle.mr_choices.specs.declared.chosen.ChosenPlan.{ChosenPlan}
 use Rattle.mr_steps.specs.declared.fault.Fault.{Fault}
 use Rattle.mr_steps.specs.declared.request.Request.{Request}
-use Rattle.mr_steps.specs.declared.request.Request.TheVariants.{Check, Convert, Drill, Encode, Make, Plan, Rebuild, Scrub}
+use Rattle.mr_steps.specs.declared.request.Request.TheVariants.{Check, Convert, Drill, Encode, Make, Plan, Rebuild, Scrub, Sectors}
 use Rattle.mr_top.proofs.Accepting.{check-is, encode-is, plan-is, rebuild-is, rebuild_found}
 use Rattle.mr_top.proofs.CodewordsOwn.{given-code}
 use Rattle.mr_top.proofs.Converting.{convert-is}
 use Rattle.mr_top.proofs.Scrubbing.{scrub-is}
+use Rattle.mr_top.proofs.Sectoring.{sectors-is}
 use Rattle.mr_top.proofs.Findings.{refusal-written, writes-own, writing-of}
 use Rattle.mr_top.proofs.HeadLimits.{IsImageGiven, image-given}
 
@@ -124,6 +127,9 @@ is-answered (Convert matrix image) contents left found output e may =
 is-answered (Scrub matrix image) contents left found output e may =
     let w = writing-of (scrub_answer contents matrix image) found e in
     sym (scrub-is contents matrix image) ∙ w.result_is ∙ ap (λ (o : Output). Ok o) (sym (writes-own (scrub_answer contents matrix image) found output w may))
+is-answered (Sectors matrix image lost bad budget) contents left found output e may =
+    let words = sectors_words matrix image lost bad budget in
+    written-as _ (sectors_answer contents words) (repair_written contents words) found output (sectors-is contents words) e may
 is-answered (Drill number) contents left found output e may = made-as (drill_given number) found output e may
 
 pub refusal-is : (request : Request) (contents : List ℕ → List ℕ) (left : List ℕ)
@@ -140,6 +146,9 @@ refusal-is (Rebuild matrix image lost workers budget plan live) contents left =
 refusal-is (Convert matrix image) contents left =
     refusal-written (convert_answer contents matrix image) ∙ ap refusal_of (convert-is contents matrix image) ∙ refusal-followed _ image_written
 refusal-is (Scrub matrix image) contents left = refusal-written (scrub_answer contents matrix image) ∙ ap refusal_of (scrub-is contents matrix image)
+refusal-is (Sectors matrix image lost bad budget) contents left =
+    let words = sectors_words matrix image lost bad budget in
+    refusal-written (sectors_answer contents words) ∙ ap refusal_of (sectors-is contents words) ∙ refusal-followed _ (repair_written contents words)
 refusal-is (Drill number) contents left = refusal-written (given (drill_given number))
 
 -- an image that is to be rebuilt is told where the files tell
@@ -163,6 +172,8 @@ found-told (Rebuild matrix file lost workers budget plan live) contents left ord
     (g.value.bytes, ap image-in g.holds)
 found-told (Convert matrix file) contents left order image e = absurd (not-written (convert_answer contents matrix file) order image e)
 found-told (Scrub matrix file) contents left order image e = absurd (not-written (scrub_answer contents matrix file) order image e)
+found-told (Sectors matrix file lost bad budget) contents left order image e =
+    absurd (not-written (sectors_answer contents (sectors_words matrix file lost bad budget)) order image e)
 found-told (Drill number) contents left order image e = absurd (not-written (given (drill_given number)) order image e)
 
 -- ---- words

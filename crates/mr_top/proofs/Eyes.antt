@@ -27,7 +27,7 @@ use Rattle.mr_steps.specs.Requests.{or_usage, rebuild_words, request_of}
 use Rattle.mr_steps.specs.Steps.{FollowsWith}
 use Rattle.mr_steps.specs.declared.fault.Fault.{Fault}
 use Rattle.mr_steps.specs.declared.request.Request.{Request}
-use Rattle.mr_steps.specs.declared.request.Request.TheVariants.{Check, Convert, Drill, Encode, Make, Plan, Rebuild, Scrub}
+use Rattle.mr_steps.specs.declared.request.Request.TheVariants.{Check, Convert, Drill, Encode, Make, Plan, Rebuild, Scrub, Sectors}
 use Rattle.mr_top.specs.Check.{cost_given}
 use Rattle.mr_steps.specs.Losses.{targets_given}
 use Rattle.mr_steps.proofs.Chains.{eyes-given}
@@ -45,6 +45,14 @@ use Rattle.mr_top.proofs.CheckSteps.{cost_next, lost_next, plan_next, valid_next
 use Rattle.mr_top.specs.WholeImages.{allowed_answer, any_version, body_answer, image_answer}
 use Rattle.mr_top.specs.Convert.{converted_output, first_version}
 use Rattle.mr_top.specs.Scrub.{scrub_output}
+use Rattle.mr_patch.specs.Damages.{DamageParts}
+use Rattle.mr_steps.specs.Losses.{lost_symbols_given}
+use Rattle.mr_words.specs.declared.sectors_words.SectorsWords.{SectorsWords}
+use Rattle.mr_top.specs.Sectors.{damage_of, determined_damage, sectors_words}
+use Rattle.mr_top.specs.SectorsSteps.{damage_file, determined_answer, repair_eyes, sectors_answer, sectors_file}
+use Rattle.mr_sectors.specs.Steps.{repair_answer}
+use Rattle.mr_top.proofs.DamageSteps.{damage_by_code, damage_by_head, damage_by_lost}
+use Rattle.mr_top.proofs.Sectoring.{eyes-list, eyes-repair}
 use Rattle.mr_top.proofs.WholeImages.{body_next, layout_next, spelled_next}
 
 eyes-text_file : (contents : List ℕ → List ℕ) (name : List ℕ) → (text_file contents name MatrixBytes).eyes ≡ record { name = name; duty = Text } ∷ []
@@ -230,6 +238,34 @@ module _ (allowed : Layout → Result Layout Fault) (written : Code → Layout �
       subst (λ eyes. IsFront (image_answer allowed written contents matrix image).eyes (eyes ++ record { name = image; duty = Head } ∷ copy)) (eyes-matrix_file contents matrix)
       (front_after (matrix_file contents matrix) (spelled_next allowed written contents image) (record { name = image; duty = Head } ∷ copy) front-spelled)
 
+-- ---- a repair
+
+module _ (contents : List ℕ → List ℕ) (words : SectorsWords) where
+  abbrev own_list : List Asked
+  own_list = record { name = words.bad; duty = Text } ∷ []
+
+  fronts-damage : Fronts (damage_file contents words) (record { name = words.matrix; duty = Text } ∷ (head_eyes words.image ++ own_list))
+  unfolding damage_file
+  fronts-damage =
+      fronts-then (matrix_file contents words.matrix) (damage_by_code contents words) (record { name = words.matrix; duty = Text } ∷ []) (head_eyes words.image ++ own_list)
+      (fronts-same _ _ (eyes-matrix_file contents words.matrix)) (λ m.
+      fronts-then (given (lost_symbols_given m words.lost)) (damage_by_lost contents words m) [] (head_eyes words.image ++ own_list) (fronts-same _ _ refl) (λ lost.
+      fronts-then (head_file contents words.image m) (damage_by_head contents words m lost) (head_eyes words.image) own_list (fronts-same _ _ (eyes-head_file contents words.image m)) (λ l.
+      fronts-same _ _ (eyes-given (sectors_file contents words.bad lost l) (λ sectors. Ok (damage_of m lost l sectors)) ∙ eyes-list contents words.bad lost l))))
+
+  fronts-determined : (d : DamageParts) → Fronts (determined_answer contents words.image words.budget d) (repair_eyes words.image)
+  unfolding determined_answer
+  fronts-determined d =
+      fronts-then (given (determined_damage d)) (λ whole. repair_answer contents words.image whole words.budget) [] (repair_eyes words.image) (fronts-same _ _ refl) (λ whole.
+      fronts-same _ _ (eyes-repair contents words.image words.budget whole))
+
+  front-sectors_answer : IsFront (sectors_answer contents words).eyes
+      (record { name = words.matrix; duty = Text } ∷ record { name = words.image; duty = Head } ∷ record { name = words.bad; duty = Text } ∷ repair_eyes words.image)
+  unfolding sectors_answer
+  front-sectors_answer =
+      (fronts-then (damage_file contents words) (determined_answer contents words.image words.budget)
+      (record { name = words.matrix; duty = Text } ∷ (head_eyes words.image ++ own_list)) (repair_eyes words.image) fronts-damage fronts-determined).front
+
 -- the eyes of an answer are a front of its command's
 front-answer : (words : List (List ℕ)) (contents : List ℕ → List ℕ) (left : List ℕ) → IsFront (answer words contents left).eyes (command_eyes (request_of words))
 unfolding answer
@@ -244,6 +280,7 @@ front-answer words contents left = go (request_of words)
     go (Some (Check matrix lost plan)) = front-check_answer contents matrix lost plan
     go (Some (Convert matrix image)) = front-whole first_version (λ _. converted_output) contents matrix image
     go (Some (Scrub matrix image)) = front-whole any_version scrub_output contents matrix image
+    go (Some (Sectors matrix image lost bad budget)) = front-sectors_answer contents (sectors_words matrix image lost bad budget)
     go (Some (Drill number)) = front_same [] [] refl
     go (Some (Plan matrix lost workers budget)) = front_same _ _ (eyes-plan_answer contents matrix lost budget)
 

@@ -28,7 +28,7 @@ use Rattle.mr_steps.specs.Requests.{or_usage, rebuild_words, request_of}
 use Rattle.mr_choices.specs.declared.chosen.ChosenPlan.{ChosenPlan}
 use Rattle.mr_steps.specs.declared.fault.Fault.{Fault}
 use Rattle.mr_steps.specs.declared.request.Request.{Request}
-use Rattle.mr_steps.specs.declared.request.Request.TheVariants.{Check, Convert, Drill, Encode, Make, Plan, Rebuild, Scrub}
+use Rattle.mr_steps.specs.declared.request.Request.TheVariants.{Check, Convert, Drill, Encode, Make, Plan, Rebuild, Scrub, Sectors}
 use Rattle.mr_top.proofs.AcceptedParts.{image_of_loss, image_of_matrix, image_of_plan, rebuild_of_head, rebuild_of_loss, rebuild_of_matrix, rebuild_of_plan}
 use Rattle.mr_top.proofs.Accepting.{handed-is, image-is, matrix-is, head-is}
 use Rattle.mr_steps.proofs.Chains.{eyes-given}
@@ -39,6 +39,15 @@ use Rattle.mr_top.proofs.ImageSteps.{asks_next, handed_next, loss_next, matrix_n
 use Rattle.mr_top.specs.WholeImages.{allowed_answer, any_version, image_answer}
 use Rattle.mr_top.specs.Convert.{converted_output, first_version}
 use Rattle.mr_top.specs.Scrub.{scrub_output}
+use Rattle.mr_patch.specs.Damages.{DamageParts}
+use Rattle.mr_steps.specs.Losses.{lost_symbols_given}
+use Rattle.mr_words.specs.declared.sectors_words.SectorsWords.{SectorsWords}
+use Rattle.mr_top.specs.Eyes.{sectors_eyes}
+use Rattle.mr_top.specs.Sectors.{damage_accepted, damage_of, determined_damage, repair_accepted, sectors_words}
+use Rattle.mr_top.specs.SectorsSteps.{damage_file, determined_answer, repair_eyes, sectors_answer, sectors_file}
+use Rattle.mr_sectors.specs.Steps.{repair_answer}
+use Rattle.mr_top.proofs.DamageSteps.{damage_by_code, damage_by_head, damage_by_lost}
+use Rattle.mr_top.proofs.Sectoring.{damage-is, eyes-list, eyes-repair}
 use Rattle.mr_top.proofs.WholeImages.{body_next, layout_next, spelled_next}
 use Rattle.mr_steps.specs.Sinks.{Output}
 
@@ -199,6 +208,63 @@ module _ (allowed : Layout → Result Layout Fault) (written : Code → Layout �
       (eyes-head_file contents image m) (head-is contents image m) (eyes-layout m))
       ∙ ap (λ eyes. record { name = matrix; duty = Text } ∷ eyes) (eyes-steps (matrix_given (contents matrix)))
 
+-- ---- a repair
+
+module _ (contents : List ℕ → List ℕ) (words : SectorsWords) where
+  abbrev own_head : List Asked
+  own_head = record { name = words.image; duty = Head } ∷ []
+
+  abbrev own_list : List Asked
+  own_list = record { name = words.bad; duty = Text } ∷ []
+
+  -- the eyes up to the list, by what the steps give
+  abbrev damage_eyes : List Asked
+  damage_eyes =
+      on (matrix_given (contents words.matrix)) (λ m. [] ++ on (lost_symbols_given m words.lost) (λ _.
+      own_head ++ on (head_given m (contents words.image)) (λ _. own_list)))
+
+  damage-eyes : (damage_file contents words).eyes ≡ record { name = words.matrix; duty = Text } ∷ damage_eyes
+  unfolding damage_file
+  damage-eyes =
+      eyes-as (matrix_file contents words.matrix) (damage_by_code contents words) (record { name = words.matrix; duty = Text } ∷ []) (matrix_given (contents words.matrix))
+      (λ m. [] ++ on (lost_symbols_given m words.lost) (λ _. own_head ++ on (head_given m (contents words.image)) (λ _. own_list)))
+      (eyes-matrix_file contents words.matrix) (matrix-is contents words.matrix) (λ m.
+      eyes-as (given (lost_symbols_given m words.lost)) (damage_by_lost contents words m) [] (lost_symbols_given m words.lost)
+      (λ _. own_head ++ on (head_given m (contents words.image)) (λ _. own_list)) refl refl (λ lost.
+      eyes-as (head_file contents words.image m) (damage_by_head contents words m lost) own_head (head_given m (contents words.image)) (λ _. own_list)
+      (eyes-head_file contents words.image m) (head-is contents words.image m) (λ l.
+      eyes-given (sectors_file contents words.bad lost l) (λ sectors. Ok (damage_of m lost l sectors)) ∙ eyes-list contents words.bad lost l)))
+
+  step-list : (r : Result Layout Fault) → on r (λ _. own_list) ≡ after r own_list
+  step-list (Ok l) = refl
+  step-list (Err fault) = refl
+
+  step-lost : (m : Code) (r : Result ℕ Fault) → [] ++ on r (λ _. own_head ++ on (head_given m (contents words.image)) (λ _. own_list))
+      ≡ after r own_head ++ after (followed_by r (λ _. head_given m (contents words.image))) own_list
+  step-lost m (Ok lost) = ap (λ eyes. own_head ++ eyes) (step-list (head_given m (contents words.image)))
+  step-lost m (Err fault) = refl
+
+  step-code : (r : Result Code Fault)
+      → on r (λ m. [] ++ on (lost_symbols_given m words.lost) (λ _. own_head ++ on (head_given m (contents words.image)) (λ _. own_list)))
+      ≡ after (followed_by r (λ m. lost_symbols_given m words.lost)) own_head
+      ++ after (followed_by r (λ m. followed_by (lost_symbols_given m words.lost) (λ _. head_given m (contents words.image)))) own_list
+  step-code (Ok m) = step-lost m (lost_symbols_given m words.lost)
+  step-code (Err fault) = refl
+
+  determined-eyes : (d : DamageParts) → (determined_answer contents words.image words.budget d).eyes ≡ [] ++ on (determined_damage d) (λ _. repair_eyes words.image)
+  unfolding determined_answer
+  determined-eyes d =
+      eyes-as (given (determined_damage d)) (λ whole. repair_answer contents words.image whole words.budget) [] (determined_damage d) (λ _. repair_eyes words.image) refl refl
+      (λ whole. eyes-repair contents words.image words.budget whole)
+
+  sectors-eyes : (sectors_answer contents words).eyes ≡ sectors_eyes contents words
+  unfolding sectors_answer
+  sectors-eyes =
+      eyes-as (damage_file contents words) (determined_answer contents words.image words.budget) (record { name = words.matrix; duty = Text } ∷ damage_eyes) (damage_accepted contents words)
+      (λ d. [] ++ on (determined_damage d) (λ _. repair_eyes words.image)) damage-eyes (damage-is contents words) determined-eyes
+      ∙ ap (λ eyes. (record { name = words.matrix; duty = Text } ∷ damage_eyes) ++ eyes) (on-two (damage_accepted contents words) determined_damage (repair_eyes words.image))
+      ∙ ap (λ eyes. record { name = words.matrix; duty = Text } ∷ (eyes ++ after (repair_accepted contents words) (repair_eyes words.image))) (step-code (matrix_given (contents words.matrix)))
+
 -- ---- requests and words
 
 pub request-eyes : (request : Request) (contents : List ℕ → List ℕ) (left : List ℕ) → (command_answer contents left request).eyes ≡ request_eyes contents left request
@@ -209,6 +275,7 @@ request-eyes (Encode matrix payload stripes bytes) contents left = encode-eyes c
 request-eyes (Rebuild matrix image lost workers budget plan live) contents left = rebuild-eyes contents left (rebuild_words matrix image lost workers budget plan live)
 request-eyes (Convert matrix image) contents left = whole-eyes first_version (λ _. converted_output) contents matrix image
 request-eyes (Scrub matrix image) contents left = whole-eyes any_version scrub_output contents matrix image
+request-eyes (Sectors matrix image lost bad budget) contents left = sectors-eyes contents (sectors_words matrix image lost bad budget)
 request-eyes (Drill number) contents left = refl
 
 pub words-eyes : (words : List (List ℕ)) (contents : List ℕ → List ℕ) (left : List ℕ) → (answer words contents left).eyes ≡ words_eyes contents left (request_of words)

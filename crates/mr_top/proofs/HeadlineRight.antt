@@ -44,7 +44,7 @@ use Rattle.mr_steps.specs.Texts.{matrix_given, text_limit, within_limit}
 use Rattle.mr_steps.specs.declared.fault.Fault.{Fault}
 use Rattle.mr_steps.specs.declared.fault.Fault.TheVariants.{BadImage, TooLarge, UndeterminedAt}
 use Rattle.mr_steps.specs.declared.request.Request.{Request}
-use Rattle.mr_steps.specs.declared.request.Request.TheVariants.{Check, Convert, Drill, Encode, Make, Plan, Rebuild, Scrub}
+use Rattle.mr_steps.specs.declared.request.Request.TheVariants.{Check, Convert, Drill, Encode, Make, Plan, Rebuild, Scrub, Sectors}
 use Rattle.mr_steps.proofs.LossRefused.{IsPast, by-targets, is-refused, loss-refused, next-status, past-ok, past-then, told-as}
 use Rattle.mr_steps.proofs.Results.{followed-followed, ok-same}
 use Rattle.mr_top.specs.Answered.{IsAnswer, IsAnswered, refusal, words_refusal}
@@ -61,7 +61,9 @@ use Rattle.mr_top.proofs.HeadLimits.{IsImageGiven, head-limits, unplanned-ok}
 use Rattle.mr_top.proofs.LawfulReplies.{lines-mended, lines-own, singles-of_stripe}
 use Rattle.mr_top.proofs.RotationFaults.{first-determined, least-rotation, rotation-found}
 use Rattle.mr_top.proofs.Rotations.{used-valid, used-wanted}
+use Rattle.mr_top.specs.Sectors.{sectors_words}
 use Rattle.mr_top.proofs.ScrubRight.{has-scrubbed}
+use Rattle.mr_top.proofs.SectorsRight.{sectors-right}
 use Rattle.mr_top.proofs.Wanting.{Determined, Refused, TargetsCases, plan-wanted, targets-cases, targets-determined}
 
 -- ---- steps that do not refuse with the status 7
@@ -391,6 +393,8 @@ headline-right (Convert matrix image) contents left failed ran f = tt
 headline-right (Scrub matrix image) contents left failed ran f = record {
   scrubbed = λ zero. has-scrubbed contents matrix image ran (f.written zero).0 (f.written zero).1 (f.written zero).2;
 }
+headline-right (Sectors matrix image lost bad budget) contents left failed ran f =
+    sectors-right contents (sectors_words matrix image lost bad budget) failed ran f.status f.line f.written
 headline-right (Drill number) contents left failed ran f = tt
 headline-right (Rebuild matrix image lost workers budget plan live) contents left failed ran f =
     rebuilds-right matrix image lost workers budget plan live contents left failed ran f

@@ -18,6 +18,9 @@ pub mod RebuildSteps
 pub mod RotationFaults
 pub mod Scrubbing
 pub mod ScrubRight
+pub mod DamageSteps
+pub mod Sectoring
+pub mod SectorsRight
 pub mod Rotations
 pub mod RunAnswers
 pub mod TakenRight

@@ -56,7 +56,7 @@ use Rattle.mr_steps.specs.Requests.{or_usage, rebuild_words, request_of}
 use Rattle.mr_top.specs.Taken.{IsTaken, TookRight, plan_bytes, survivor_asks, whole_taken}
 use Rattle.mr_steps.specs.declared.fault.Fault.{Fault}
 use Rattle.mr_steps.specs.declared.request.Request.{Request}
-use Rattle.mr_steps.specs.declared.request.Request.TheVariants.{Check, Convert, Drill, Encode, Make, Plan, Rebuild, Scrub}
+use Rattle.mr_steps.specs.declared.request.Request.TheVariants.{Check, Convert, Drill, Encode, Make, Plan, Rebuild, Scrub, Sectors}
 use Rattle.mr_top.proofs.AcceptedParts.{rebuild_of_head, rebuild_of_loss, rebuild_of_plan}
 use Rattle.mr_top.proofs.Accepting.{handed-is, image_file-is, matrix-is, head-is}
 use Rattle.mr_top.proofs.CheckSteps.{cost_next, lost_next, plan_next, valid_next}
@@ -69,6 +69,19 @@ use Rattle.mr_top.proofs.Rotations.{plans-copied, used-valid}
 use Rattle.mr_top.specs.WholeImages.{allowed_answer, any_version, body_answer, image_answer}
 use Rattle.mr_top.specs.Convert.{converted_output, first_accepted, first_version, convert_answer}
 use Rattle.mr_top.specs.Scrub.{either_accepted, scrub_answer, scrub_output}
+use Rattle.mr_bits.specs.declared.errors.What.TheVariants.{SectorBytes}
+use Rattle.mr_io.specs.declared.duty.Duty.TheVariants.{Mend}
+use Rattle.mr_patch.specs.Damages.{DamageParts}
+use Rattle.mr_sector.specs.Sectors.{sectors_of}
+use Rattle.mr_sector.specs.declared.sectors.TheConstants.{SECTORS_LIMIT}
+use Rattle.mr_sectors.specs.Steps.{copy_answer, copy_bytes, mend_bytes, repair_answer}
+use Rattle.mr_steps.specs.Losses.{lost_symbols_given}
+use Rattle.mr_words.specs.declared.sectors_words.SectorsWords.{SectorsWords}
+use Rattle.mr_top.specs.Sectors.{damage_of, determined_damage, or_bad_sectors, repair_accepted, sectors_words}
+use Rattle.mr_top.specs.SectorsSteps.{damage_file, determined_answer, sectors_answer, sectors_file}
+use Rattle.mr_top.specs.Taken.{repair_taken}
+use Rattle.mr_top.proofs.DamageSteps.{damage_by_code, damage_by_head, damage_by_lost}
+use Rattle.mr_top.proofs.Sectoring.{damage-is}
 use Rattle.mr_top.proofs.WholeImages.{body_next, layout_next, spelled_next}
 
 -- ---- chains that give a value
@@ -382,6 +395,57 @@ module _ (allowed : Layout → Result Layout Fault) (written : Code → Layout �
             ∙ same_totals _ _ _ _ _ _ _ _ _ _ (omega arith) (omega arith) (omega arith) (omega arith) (omega arith);
       }
 
+-- ---- a repair
+
+module _ (contents : List ℕ → List ℕ) (words : SectorsWords) where
+  takes-within : TakesBytes (text_within SECTORS_LIMIT contents words.bad SectorBytes) (text_taken contents words.bad)
+  unfolding text_within
+  takes-within = λ x e. refl
+
+  takes-list : (lost : ℕ) (l : Layout) → TakesBytes (sectors_file contents words.bad lost l) (added (text_taken contents words.bad) no_bytes)
+  unfolding sectors_file
+  takes-list lost l =
+      takes-given (text_within SECTORS_LIMIT contents words.bad SectorBytes) (λ text. or_bad_sectors (sectors_of l lost text)) (text_taken contents words.bad) takes-within
+
+  abbrev damage_taken : Totals
+  damage_taken =
+      added (matrix_taken contents words.matrix)
+      (added no_bytes (added (added (bytes_of Head HEAD_BYTES) no_bytes) (added (added (text_taken contents words.bad) no_bytes) no_bytes)))
+
+  takes-damage : TakesBytes (damage_file contents words) damage_taken
+  unfolding damage_file
+  takes-damage =
+      takes-then (matrix_file contents words.matrix) (damage_by_code contents words) (matrix_taken contents words.matrix)
+      (added no_bytes (added (added (bytes_of Head HEAD_BYTES) no_bytes) (added (added (text_taken contents words.bad) no_bytes) no_bytes))) (takes-matrix contents words.matrix) (λ m.
+      takes-then (given (lost_symbols_given m words.lost)) (damage_by_lost contents words m) no_bytes
+      (added (added (bytes_of Head HEAD_BYTES) no_bytes) (added (added (text_taken contents words.bad) no_bytes) no_bytes)) (λ _ _. refl) (λ lost.
+      takes-then (head_file contents words.image m) (damage_by_head contents words m lost) (added (bytes_of Head HEAD_BYTES) no_bytes)
+      (added (added (text_taken contents words.bad) no_bytes) no_bytes) (takes-bytes contents words.image m) (λ l.
+      takes-given (sectors_file contents words.bad lost l) (λ sectors. Ok (damage_of m lost l sectors)) (added (text_taken contents words.bad) no_bytes) (takes-list lost l))))
+
+  takes-repair : (d : DamageParts) → (repair_answer contents words.image d words.budget).taken
+      ≡ added (bytes_of Mend (mend_bytes d words.budget)) (added (bytes_of Copy (copy_bytes d)) no_bytes)
+  unfolding repair_answer copy_answer
+  takes-repair d = refl
+
+  sectors-took : (output : Output) → (sectors_answer contents words).result ≡ Ok output
+      → Gave (repair_accepted contents words) (λ d. (sectors_answer contents words).taken
+      ≡ repair_taken (length (contents words.matrix) + length (contents words.bad)) d words.budget)
+  unfolding sectors_answer determined_answer
+  sectors-took output e =
+      let g = gave-on (damage_file contents words) (determined_answer contents words.image words.budget) output e in
+      let h = gave-on (given (determined_damage g.value)) (λ whole. repair_answer contents words.image whole words.budget) output g.holds in
+      record {
+        value = h.value;
+        is = ap (λ r. followed_by r determined_damage) (sym (damage-is contents words) ∙ g.is) ∙ h.is;
+        holds = taken-next (damage_file contents words) (determined_answer contents words.image words.budget) g.value g.is
+            ∙ ap (λ t. added t (determined_answer contents words.image words.budget g.value).taken) (takes-damage g.value g.is)
+            ∙ ap (added damage_taken)
+            (taken-next (given (determined_damage g.value)) (λ whole. repair_answer contents words.image whole words.budget) h.value h.is
+            ∙ ap (added no_bytes) (takes-repair h.value))
+            ∙ same_totals _ _ _ _ _ _ _ _ _ _ (omega arith) (omega arith) (omega arith) (omega arith) (omega arith);
+      }
+
 -- totals that grew by what a chain took
 grew-gave : {X : Type 0} (r : Result X Fault) (f : X → Totals) (taken old new : Totals) → new ≡ grown old taken → Gave r (λ x. taken ≡ f x)
     → Gave r (λ x. new ≡ grown old (f x))
@@ -418,6 +482,12 @@ took-right (Scrub matrix image) contents left found old mid new e h took =
     grew-gave (either_accepted contents matrix image) (whole_taken (length (contents matrix))) (scrub_answer contents matrix image).taken old new
     (took-written (scrub_answer contents matrix image) found old mid new _ w refl h took)
     (whole-took any_version scrub_output contents matrix image w.output w.result_is)
+took-right (Sectors matrix image lost bad budget) contents left found old mid new e h took =
+    let words = sectors_words matrix image lost bad budget in
+    let w = writing-of (sectors_answer contents words) found e in
+    grew-gave (repair_accepted contents words) (λ d. repair_taken (length (contents matrix) + length (contents bad)) d budget) (sectors_answer contents words).taken old new
+    (took-written (sectors_answer contents words) found old mid new _ w refl h took)
+    (sectors-took contents words w.output w.result_is)
 took-right (Drill number) contents left found old mid new e h took =
     took-written (given (drill_given number)) found old mid new no_bytes (writing-of (given (drill_given number)) found e) refl h took
 

@@ -7,7 +7,7 @@ use Rattle.mr_steps.specs.Sinks.{Output}
 use Rattle.mr_steps.specs.declared.fault.Fault.{Fault}
 use Rattle.mr_steps.specs.declared.fault.Fault.TheVariants.{Usage}
 use Rattle.mr_steps.specs.declared.request.Request.{Request}
-use Rattle.mr_steps.specs.declared.request.Request.TheVariants.{Check, Convert, Drill, Encode, Make, Plan, Rebuild, Scrub}
+use Rattle.mr_steps.specs.declared.request.Request.TheVariants.{Check, Convert, Drill, Encode, Make, Plan, Rebuild, Scrub, Sectors}
 use Rattle.mr_top.specs.Check.{check_accepted, check_written}
 use Rattle.mr_top.specs.Convert.{convert_accepted}
 use Rattle.mr_top.specs.Drill.{drill_given}
@@ -16,6 +16,7 @@ use Rattle.mr_top.specs.Make.{make_given}
 use Rattle.mr_top.specs.Plan.{plan_accepted, plan_written}
 use Rattle.mr_top.specs.Rebuild.{image_accepted, rebuild_accepted}
 use Rattle.mr_top.specs.Scrub.{scrub_accepted}
+use Rattle.mr_top.specs.Sectors.{repair_accepted, repair_written, sectors_words}
 
 -- The request is accepted over files with these contents and a script with these bytes left, and
 -- this is its answer.
@@ -35,6 +36,9 @@ IsAnswered (Convert matrix image) contents left output =
     Gave (convert_accepted contents matrix image) (λ file. output ≡ image_written file)
 IsAnswered (Scrub matrix image) contents left output =
     scrub_accepted contents matrix image ≡ Ok output
+IsAnswered (Sectors matrix image lost bad budget) contents left output =
+    Gave (repair_accepted contents (sectors_words matrix image lost bad budget))
+    (λ d. output ≡ repair_written contents (sectors_words matrix image lost bad budget) d)
 IsAnswered (Drill number) contents left output = drill_given number ≡ Ok output
 
 -- the first refusal of a request
@@ -51,6 +55,8 @@ refusal contents left (Rebuild matrix image lost workers budget plan live) =
     (rebuild_words matrix image lost workers budget plan live))
 refusal contents left (Convert matrix image) = refusal_of (convert_accepted contents matrix image)
 refusal contents left (Scrub matrix image) = refusal_of (scrub_accepted contents matrix image)
+refusal contents left (Sectors matrix image lost bad budget) =
+    refusal_of (repair_accepted contents (sectors_words matrix image lost bad budget))
 refusal contents left (Drill number) = refusal_of (drill_given number)
 
 -- the first refusal of the words' request; words that are none are refused as such
@@ -68,6 +74,7 @@ reaches_script contents (Rebuild matrix image lost workers budget plan live) =
     is_ok (image_accepted contents (rebuild_words matrix image lost workers budget plan live))
 reaches_script contents (Convert matrix image) = false
 reaches_script contents (Scrub matrix image) = false
+reaches_script contents (Sectors matrix image lost bad budget) = false
 reaches_script contents (Drill number) = false
 
 -- the same for the words' request
@@ -85,6 +92,7 @@ asks_script (Some (Encode matrix payload stripes bytes)) = false
 asks_script (Some (Rebuild matrix image lost workers budget plan live)) = true
 asks_script (Some (Convert matrix image)) = false
 asks_script (Some (Scrub matrix image)) = false
+asks_script (Some (Sectors matrix image lost bad budget)) = false
 asks_script (Some (Drill number)) = false
 
 -- This is the answer to the words.

@@ -4,16 +4,19 @@ use Rattle.mr_io.specs.declared.asked.Asked.{Asked}
 use Rattle.mr_io.specs.declared.duty.Duty.TheVariants.{Copy, Head, Text}
 use Rattle.mr_ready.specs.Duties.{duties_of, eyes_on}
 use Rattle.mr_words.specs.declared.rebuild_words.RebuildWords.{RebuildWords}
+use Rattle.mr_words.specs.declared.sectors_words.SectorsWords.{SectorsWords}
 use Rattle.mr_steps.specs.Requests.{rebuild_words}
 use Rattle.mr_steps.specs.Losses.{loss_accepted}
 use Rattle.mr_steps.specs.Texts.{matrix_given}
 use Rattle.mr_steps.specs.declared.fault.Fault.{Fault}
 use Rattle.mr_steps.specs.declared.request.Request.{Request}
-use Rattle.mr_steps.specs.declared.request.Request.TheVariants.{Check, Convert, Drill, Encode, Make, Plan, Rebuild, Scrub}
+use Rattle.mr_steps.specs.declared.request.Request.TheVariants.{Check, Convert, Drill, Encode, Make, Plan, Rebuild, Scrub, Sectors}
 use Rattle.mr_top.specs.Convert.{first_accepted}
 use Rattle.mr_top.specs.Encode.{layout_accepted}
 use Rattle.mr_top.specs.Rebuild.{file_accepted, rebuild_accepted}
 use Rattle.mr_top.specs.Scrub.{either_accepted}
+use Rattle.mr_top.specs.Sectors.{head_accepted, lost_accepted, repair_accepted, sectors_words}
+use Rattle.mr_top.specs.SectorsSteps.{repair_eyes}
 
 -- these eyes, where the steps before them gave a value
 abbrev pub after : {X : Type 0} → Result X Fault → List Asked → List Asked
@@ -43,6 +46,14 @@ whole_eyes matrix image code layout =
     ∷ after code (record { name = image; duty = Head } ∷ [])
     ++ after layout (record { name = image; duty = Copy } ∷ [])
 
+-- the eyes of a repair
+abbrev pub sectors_eyes : (List ℕ → List ℕ) → SectorsWords → List Asked
+sectors_eyes contents words =
+    record { name = words.matrix; duty = Text }
+    ∷ after (lost_accepted contents words) (record { name = words.image; duty = Head } ∷ [])
+    ++ after (head_accepted contents words) (record { name = words.bad; duty = Text } ∷ [])
+    ++ after (repair_accepted contents words) (repair_eyes words.image)
+
 -- the eyes of a request
 abbrev pub request_eyes : (List ℕ → List ℕ) → List ℕ → Request → List Asked
 request_eyes contents left (Plan matrix lost workers budget) =
@@ -63,6 +74,8 @@ request_eyes contents left (Convert matrix image) =
 request_eyes contents left (Scrub matrix image) =
     whole_eyes matrix image (matrix_given (contents matrix))
     (either_accepted contents matrix image)
+request_eyes contents left (Sectors matrix image lost bad budget) =
+    sectors_eyes contents (sectors_words matrix image lost bad budget)
 request_eyes contents left (Drill number) = []
 
 -- the eyes of words: none where they are not read
@@ -88,4 +101,7 @@ command_eyes (Some (Convert matrix image)) =
 command_eyes (Some (Scrub matrix image)) =
     record { name = matrix; duty = Text } ∷ record { name = image; duty = Head }
     ∷ record { name = image; duty = Copy } ∷ []
+command_eyes (Some (Sectors matrix image lost bad budget)) =
+    record { name = matrix; duty = Text } ∷ record { name = image; duty = Head }
+    ∷ record { name = bad; duty = Text } ∷ repair_eyes image
 command_eyes (Some (Drill number)) = []

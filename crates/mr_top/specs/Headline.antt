@@ -36,11 +36,13 @@ use Rattle.mr_steps.specs.declared.choice_line.ChoiceLine.{ChoiceLine}
 use Rattle.mr_steps.specs.declared.choice_line.ChoiceLine.TheVariants.{Given as GivenLine, Least as LeastLine, Spent as SpentLine}
 use Rattle.mr_steps.specs.declared.fault.Fault.TheVariants.{Undetermined, UndeterminedAt}
 use Rattle.mr_steps.specs.declared.request.Request.{Request}
-use Rattle.mr_steps.specs.declared.request.Request.TheVariants.{Check, Convert, Drill, Encode, Make, Plan, Rebuild, Scrub}
+use Rattle.mr_steps.specs.declared.request.Request.TheVariants.{Check, Convert, Drill, Encode, Make, Plan, Rebuild, Scrub, Sectors}
 pub use Rattle.mr_steps.specs.Undetermined.{IsLeastUndetermined, IsRefused}
 use Rattle.mr_top.specs.Ran.{Ran, Wrote}
 use Rattle.mr_top.specs.Rebuild.{asks_given, head_given}
 use Rattle.mr_top.specs.ScrubHeadline.{ScrubsRight}
+use Rattle.mr_top.specs.Sectors.{sectors_words}
+use Rattle.mr_top.specs.SectorsHeadline.{SectorsRight}
 
 -- The survivors do not determine the lost symbol t in rotation r, which is in use and above 0, and
 -- each lost symbol below it they do, and each in the rotations before it.
@@ -160,4 +162,6 @@ Headline (Rebuild matrix image lost workers budget plan live) contents left fail
     RebuildsRight contents left (rebuild_words matrix image lost workers budget plan live) failed ran
 Headline (Convert matrix image) contents left failed ran = ⊤
 Headline (Scrub matrix image) contents left failed ran = ScrubsRight contents matrix image ran
+Headline (Sectors matrix image lost bad budget) contents left failed ran =
+    SectorsRight contents (sectors_words matrix image lost bad budget) failed ran
 Headline (Drill number) contents left failed ran = ⊤

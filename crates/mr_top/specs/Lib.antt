@@ -12,6 +12,8 @@ pub mod WholeImages
 pub mod Convert
 pub mod Drill
 pub mod Scrub
+pub mod Sectors
+pub mod SectorsSteps
 pub mod Answered
 pub mod Commands
 pub mod Eyes
@@ -21,5 +23,6 @@ pub mod Outcomes
 pub mod ImagesRead
 pub mod Ran
 pub mod ScrubHeadline
+pub mod SectorsHeadline
 pub mod Headline
 pub mod Answers

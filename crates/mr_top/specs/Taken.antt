@@ -10,16 +10,19 @@ use Rattle.mr_mend.specs.Mending.{members_read}
 use Rattle.mr_mend.specs.declared.asks.Ask.{Ask}
 use Rattle.mr_model.specs.Members.{members}
 use Rattle.mr_model.specs.Sets.{has}
+use Rattle.mr_patch.specs.Damages.{DamageParts}
 use Rattle.mr_plan.specs.Plans.{survivors}
 use Rattle.mr_ready.specs.Reads.{most_replying_reads}
+use Rattle.mr_sectors.specs.Steps.{copy_bytes, mend_bytes}
 use Rattle.mr_words.specs.declared.rebuild_words.RebuildWords.{RebuildWords}
 use Rattle.mr_steps.specs.Requests.{rebuild_words}
 use Rattle.mr_steps.specs.Refusals.{Gave}
 use Rattle.mr_steps.specs.declared.request.Request.{Request}
-use Rattle.mr_steps.specs.declared.request.Request.TheVariants.{Check, Convert, Drill, Encode, Make, Plan, Rebuild, Scrub}
+use Rattle.mr_steps.specs.declared.request.Request.TheVariants.{Check, Convert, Drill, Encode, Make, Plan, Rebuild, Scrub, Sectors}
 use Rattle.mr_top.specs.Convert.{first_accepted}
 use Rattle.mr_top.specs.Rebuild.{RebuildAccepted, rebuild_accepted}
 use Rattle.mr_top.specs.Scrub.{either_accepted}
+use Rattle.mr_top.specs.Sectors.{repair_accepted, sectors_words}
 
 -- the bytes of a plan file, where one is named
 abbrev pub plan_bytes : (List ℕ → List ℕ) → Option (List ℕ) → ℕ
@@ -58,6 +61,15 @@ whole_taken text l = record no_bytes {
   copy = l.stripes * stripe_symbols l * l.symbol_bytes;
 }
 
+-- two texts, a head, in each stripe the set that is read for the symbols that fail, and the others
+abbrev pub repair_taken : ℕ → DamageParts → ℕ → Totals
+repair_taken text d budget = record no_bytes {
+  text = text;
+  head = HEAD_BYTES;
+  mend = mend_bytes d budget;
+  copy = copy_bytes d;
+}
+
 -- the totals of each duty, after a run of this request that answered
 abbrev pub TookRight : Request → (List ℕ → List ℕ) → List ℕ → Totals → Totals → Type 0
 TookRight (Plan matrix lost workers budget) contents left old new =
@@ -77,4 +89,8 @@ TookRight (Convert matrix image) contents left old new =
 TookRight (Scrub matrix image) contents left old new =
     Gave (either_accepted contents matrix image)
     (λ l. new ≡ grown old (whole_taken (length (contents matrix)) l))
+TookRight (Sectors matrix image lost bad budget) contents left old new =
+    Gave (repair_accepted contents (sectors_words matrix image lost bad budget))
+    (λ d. new ≡ grown old
+    (repair_taken (length (contents matrix) + length (contents bad)) d budget))
 TookRight (Drill number) contents left old new = new ≡ grown old no_bytes

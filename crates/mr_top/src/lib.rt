@@ -5,6 +5,7 @@ mod asking;
 mod carrying;
 mod check;
 mod convert;
+mod damage_read;
 mod drill;
 mod encode;
 mod image_head;
@@ -16,6 +17,7 @@ mod plan;
 mod rebuild;
 mod reply;
 mod scrub;
+mod sectors;
 mod top;
 
 pub use mr_choices::{ChosenPlan, ChosenPlans};

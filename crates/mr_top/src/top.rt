@@ -31,10 +31,11 @@ use crate::plan::plan;
 use crate::rebuild::rebuild;
 use crate::reply::Reply;
 use crate::scrub::scrub;
+use crate::sectors::sectors;
 use mr_io::{Files, Gate, Sink, Source};
 use mr_kern::XorKernel;
 use mr_steps::{Fault, Request, read_words, refuse};
-use mr_words::{CheckWords, EncodeWords, ImageWords, PlanWords, RebuildWords};
+use mr_words::{CheckWords, EncodeWords, ImageWords, PlanWords, RebuildWords, SectorsWords};
 use std::alloc::Global;
 use std::thread::Threads;
 
@@ -298,6 +299,22 @@ fn answer_request<T: Threads + Sync, F: Files, S: Source, G: Gate + Sync>(
             replied(convert(lent, &ImageWords { matrix, image }))
         }
         Request::Scrub { matrix, image } => replied(scrub(lent, &ImageWords { matrix, image })),
+        Request::Sectors {
+            matrix,
+            image,
+            lost,
+            bad,
+            budget,
+        } => replied(sectors(
+            lent,
+            &SectorsWords {
+                matrix,
+                image,
+                lost,
+                bad,
+                budget,
+            },
+        )),
         Request::Drill { number } => replied(drill(
             lent.tools.rt,
             lent.tools.alloc,

@@ -12,6 +12,8 @@ use Rattle.mr_steps.specs.Readings.{given}
 use Rattle.mr_top.specs.Replies.{output_of}
 use Rattle.mr_top.specs.declared.outcome.Outcome.TheVariants.{Reply}
 use Rattle.mr_top.specs.Scrub.{scrub_answer}
+use Rattle.mr_top.specs.Sectors.{sectors_words}
+use Rattle.mr_top.specs.SectorsSteps.{sectors_answer}
 use Rattle.mr_steps.proofs.Chains.{reads_given}
 use Rattle.mr_steps.proofs.Growing.{grows_given}
 use Rattle.mr_top.proofs.WithScript.{replied-causes, with-reply, with-request}
@@ -67,6 +69,15 @@ returns-in-Convert-clause-script_front g c = subst (λ s. ReadsFront (g.S.Source
 pub returns-in-Scrub-clause-script_front : goal.returns-in-Scrub-clause-script_front
 returns-in-Scrub-clause-script_front g c = subst (λ s. ReadsFront (g.S.Source.left c.args.lent.now.script.now) (g.S.Source.left s) (script_limit + 1))
     (sym c.scrub.ensures.kept) (front_none _ _)
+
+pub returns-in-Sectors-clause-follows : goal.returns-in-Sectors-clause-follows
+returns-in-Sectors-clause-follows g c = with-request g.F.E.Eye.sight _ _ _ _ _ _ _ _ c.in-Sectors.is (with-reply g.F.E.Eye.sight _ _ _ _ _ c.sectors.result c.replied-in-Sectors.result
+    (λ contents. sectors_answer contents (sectors_words c.in-Sectors.matrix c.in-Sectors.image c.in-Sectors.lost c.in-Sectors.bad c.in-Sectors.budget))
+    c.replied-in-Sectors.ensures c.sectors.ensures.reads c.sectors.ensures.totals)
+
+pub returns-in-Sectors-clause-script_front : goal.returns-in-Sectors-clause-script_front
+returns-in-Sectors-clause-script_front g c = subst (λ s. ReadsFront (g.S.Source.left c.args.lent.now.script.now) (g.S.Source.left s) (script_limit + 1))
+    (sym c.sectors.ensures.kept) (front_none _ _)
 
 pub returns-in-Drill-clause-follows : goal.returns-in-Drill-clause-follows
 returns-in-Drill-clause-follows g c = with-request g.F.E.Eye.sight _ _ _ _ _ _ _ _ c.in-Drill.is (with-reply g.F.E.Eye.sight _ _ _ _ _ c.drill.result c.replied-in-Drill.result
