@@ -1,6 +1,5 @@
 -- The steps of `sectors` up to the list of the symbols that cannot be read, each with what comes after it.
 use Rattle.std.proofs.Common.{◌≡◌, ℕ, List, Vec, Global, Option, Some, None, Result, Ok, Err, length, option_map, refl, sym, ◌∙◌, ap}
-use Rattle.std.specs.Option.{ForSome}
 use Rattle.mr_bits.specs.declared.errors.What.TheVariants.{SectorBytes}
 use Rattle.mr_image.specs.Images.{Layout}
 use Rattle.mr_io.specs.Telling.{Told}

@@ -1,13 +1,10 @@
 -- The chain of `sectors` and what it accepts.
-use Rattle.std.proofs.Common.{◌≡◌, ℕ, List, [], ◌∷◌, Vec, Global, Option, Some, None, Result, Ok, Err, refl, sym, ◌∙◌, ap}
-use Rattle.std.specs.Option.{ForSome}
+use Rattle.std.proofs.Common.{◌≡◌, ℕ, List, [], ◌∷◌, Option, Some, None, Result, Ok, Err, refl, sym, ◌∙◌, ap}
 use Rattle.mr_bits.specs.declared.errors.What.TheVariants.{SectorBytes}
 use Rattle.mr_image.specs.Images.{Layout}
 use Rattle.mr_io.specs.Telling.{Told}
-use Rattle.mr_io.specs.declared.asked.Asked.{Asked}
 use Rattle.mr_io.specs.declared.duty.Duty.TheVariants.{Text}
 use Rattle.mr_io.specs.declared.totals.Totals.{Totals}
-use Rattle.mr_mend.specs.declared.asks.Ask.{Ask}
 use Rattle.mr_model.specs.Code.{Code}
 use Rattle.mr_patch.specs.Damages.{DamageParts}
 use Rattle.mr_sector.specs.Sectors.{sectors_of}
@@ -19,10 +16,9 @@ use Rattle.mr_survey.specs.Surveys.{first_undetermined}
 use Rattle.mr_survey.specs.declared.errors.UndeterminedIn.{UndeterminedIn as OpenStripe}
 use Rattle.mr_words.specs.declared.sectors_words.SectorsWords.{SectorsWords}
 use Rattle.mr_steps.specs.Losses.{lost_symbols_given}
-use Rattle.mr_steps.specs.Readings.{Reading, given, ◌>>=◌}
+use Rattle.mr_steps.specs.Readings.{given}
 use Rattle.mr_steps.specs.Refusals.{followed_by}
-use Rattle.mr_steps.specs.Sinks.{Output}
-use Rattle.mr_steps.specs.Steps.{Gives, Grows, Reads}
+use Rattle.mr_steps.specs.Steps.{Grows, Reads}
 use Rattle.mr_steps.specs.TextFiles.{matrix_file, text_within}
 use Rattle.mr_steps.specs.Texts.{matrix_given, within}
 use Rattle.mr_steps.specs.declared.fault.Fault.{Fault}

@@ -1,15 +1,14 @@
 -- A run of `sectors` keeps to its headline.
-use Rattle.std.proofs.Common.{arith, ◌≡◌, ◌≤◌, ◌^◌, ◌<◌, ℕ, nat_le, Bool, true, List, length, Option, Some, None, Result, Ok, Err, refl, sym, ◌∙◌, ap, subst, cond}
+use Rattle.std.proofs.Common.{arith, ◌≡◌, ◌≤◌, ◌^◌, ◌<◌, ℕ, List, length, Option, Some, None, Result, Ok, Err, refl, sym, ◌∙◌, ap, subst, cond}
 use Rattle.std.proofs.lemmas.Bool.{le-leb}
 use Rattle.mr_bits.specs.Matrices.{IsMatrixCode}
 use Rattle.mr_bits.specs.declared.errors.What.{What}
 use Rattle.mr_bits.specs.declared.errors.What.TheVariants.{SectorBytes}
-use Rattle.mr_image.specs.Images.{Layout, image_of}
-use Rattle.mr_mend.specs.Scripts.{script_text}
+use Rattle.mr_image.specs.Images.{Layout}
 use Rattle.mr_mend.specs.declared.asks.Ask.{Ask}
 use Rattle.mr_model.specs.Code.{Code}
-use Rattle.mr_patch.specs.Damages.{DamageParts, IsDamage, OthersFrom, code_file, patched_file, set_reads}
-use Rattle.mr_sector.specs.Sectors.{AreSectors, HasFirstBadSector, sectors_of}
+use Rattle.mr_patch.specs.Damages.{DamageParts, IsDamage, patched_file, set_reads}
+use Rattle.mr_sector.specs.Sectors.{HasFirstBadSector, sectors_of}
 use Rattle.mr_sector.specs.declared.sectors.TheConstants.{SECTORS_LIMIT}
 use Rattle.mr_sector.proofs.SectorTexts.{bad-read, text-read}
 use Rattle.mr_sectors.specs.Counts.{mended_of, patterns_of}
@@ -25,13 +24,12 @@ use Rattle.mr_steps.specs.Faults.{fault_line, fault_status}
 use Rattle.mr_steps.specs.Losses.{lost_given, lost_symbols_given}
 use Rattle.mr_steps.specs.Refusals.{Gave, followed_by, refusal_of, status_by}
 use Rattle.mr_steps.specs.Sinks.{HasLine, Output}
-use Rattle.mr_steps.specs.Texts.{matrix_given, within}
+use Rattle.mr_steps.specs.Texts.{within}
 use Rattle.mr_steps.specs.declared.fault.Fault.{Fault}
 use Rattle.mr_steps.specs.declared.fault.Fault.TheVariants.{BadSectors, TooLarge, UndeterminedIn}
 use Rattle.mr_steps.proofs.Results.{gave-then, ok-same}
 use Rattle.mr_top.specs.Ran.{Ran, Wrote}
-use Rattle.mr_top.specs.Rebuild.{head_given}
-use Rattle.mr_top.specs.Sectors.{damage_accepted, damage_of, determined_damage, or_bad_sectors, repair_accepted, repair_written, sectors_given, unless_stripe}
+use Rattle.mr_top.specs.Sectors.{damage_accepted, damage_of, determined_damage, or_bad_sectors, repair_accepted, repair_written, unless_stripe}
 use Rattle.mr_top.specs.SectorsHeadline.{AreRead, HasRepaired, IsSpelled, SectorsRight}
 use Rattle.mr_top.proofs.CodewordsOwn.{given-code}
 use Rattle.mr_top.proofs.HeadLimits.{HasLimits, head-limits}

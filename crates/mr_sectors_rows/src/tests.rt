@@ -1,0 +1,5 @@
+//! The tests, a file for each part.
+
+mod failing;
+mod gates;
+mod rows;
