@@ -123,6 +123,7 @@ module _ (n : Names) (s : State KeptStripe LockView) (log : ℕ → List Entry) 
           home.1,
           record {
             whole = w;
+            size = fits.size;
             bytes = ap (λ b. if b then kept.bytes.items else mended_bytes n.head (recipes_at n.plans t) kept.bytes.items) (sym w) ∙ fits.value ∙ ap (value n t) (sym fits.log_is);
             each = λ h. ap (calls (λ _ e. h e) []) fits.log_is ∙ each_once h;
             made_are = λ h. made_here h ∙ ap (calls h []) (sym fits.log_is);

@@ -4,6 +4,7 @@ use Rattle.mr_model.specs.Search.{sum_below}
 use Rattle.mr_history.specs.declared.entry.Entry.{Entry}
 use Rattle.mr_history.specs.declared.entry.Entry.TheVariants.{Ask, Mend}
 use Rattle.mr_history.specs.declared.kept.KeptStripe.{KeptStripe}
+use Rattle.mr_kept.specs.Kept.{stripe_bytes}
 use Rattle.mr_history.specs.Histories.{FitsHistory, Names, call_count, names_of, stripe_of, stripes, value}
 use Rattle.mr_locks.specs.Calls.{Holding, calls}
 use Rattle.mr_locks.specs.Rule.{Mine, holding_view}
@@ -64,6 +65,7 @@ pub record HasAll (n : Names) (v : LockView) : Type 0 where
 pub record IsClosed (n : Names) (made : (List Entry → Entry → ℕ) → ℕ) (t : ℕ) (kept : KeptStripe)
     : Type 0 where
   pub whole : kept.whole ≡ true
+  pub size : length kept.bytes.items ≡ stripe_bytes n.head
   pub bytes : kept.bytes.items ≡ value n t kept.history.items
   pub each : (h : Entry → ℕ) → calls (λ _ e. h e) [] kept.history.items ≡ calls_of h n t
   pub made_are : (h : List Entry → Entry → ℕ) → made h ≡ calls h [] kept.history.items
