@@ -7,6 +7,7 @@ ghost use Rattle.mr_kept.specs.Kept.{AreAmendable, stripe_bytes};
 ghost use Rattle.mr_history.specs.declared.kept.KeptStripe.{KeptStripe as AStripe};
 ghost use Rattle.mr_history.specs.Histories.{PartsFit, bytes_read, names_of};
 ghost use Rattle.mr_locks.specs.Rule.{first_view};
+ghost use Rattle.mr_ops.specs.Ops.{IsOpOf};
 ghost use Rattle.mr_locks.specs.Seats.{IsSeatOf, names};
 
 use mr_bits::{Mask, Matrix};
@@ -17,6 +18,7 @@ use mr_image::ImageHead;
 use mr_kept::laws::valid_plans_are_amendable;
 use mr_kern::{XorKernel, block_plain};
 use mr_locks::{LockSeat, Locks};
+use mr_ops::{OPS_LIMIT, Op, read_ops};
 use mr_plan::{Plan, Plans, check};
 use std::alloc::Global;
 use std::collections::VecDeque;
@@ -63,13 +65,13 @@ fn plans(rt: &impl Abort, alloc: Global, head: &ImageHead, matrix: &Matrix) -> R
     Ok(Plans::new(list))
 }
 
-/// What the calls go by, of which there are none but the mend of one stripe.
+/// What the calls on the stripes of an image of one stripe go by.
 fn terms(
-    alloc: Global,
     head: ImageHead,
     matrix: Matrix,
     plans: Plans,
     image: &VecDeque<Vec<u8>>,
+    ops: Vec<Op>,
 ) -> Terms
     requires plans { AreAmendable head plans }
     requires code { FitsCode head matrix }
@@ -77,9 +79,10 @@ fn terms(
     requires symbols { head.devices * head.symbols_per_device * head.symbol_bytes ≡ 64 }
     requires count { length image.now.items ≡ 1 }
     requires widths { All (λ bytes. length bytes.items ≡ 64) image.now.items }
+    requires ops { All (IsOpOf head matrix.columns) ops.items }
     ensures parts { PartsFit (names_of result) }
     ensures head { result.head ≡ head }
-    ensures ops { result.ops.items ≡ [] }
+    ensures ops { result.ops.items ≡ ops.items }
     ensures image { result.image.value ≡ image.now }
 {
     Terms {
@@ -87,7 +90,7 @@ fn terms(
         matrix,
         plans,
         image: Snapshot::of(image),
-        ops: Vec::new(alloc),
+        ops,
     }
 }
 
@@ -127,19 +130,34 @@ fn mended<T: Abort + Wait>(rt: &T, locks: Locks, seat: LockSeat, server: &Server
     locks.close(seat)
 }
 
+/// The image of one stripe without device 0, and what calls on it go by, with these asks.
+fn lost_stripe(rt: &impl Abort, alloc: Global, script: &str) -> Result<(Terms, Vec<u8>), Fail>
+    ensures parts { IfOk result (λ made. PartsFit (names_of made.0)) }
+    ensures stripes { IfOk result (λ made. made.0.head.stripes ≡ 1) }
+    ensures symbols { IfOk result (λ made. stripe_bytes made.0.head ≡ 64) }
+    ensures size { IfOk result (λ made. made.0.head.symbol_bytes ≡ 8) }
+    ensures bytes { IfOk result (λ made. made.1.items ≡ bytes_read (names_of made.0) 0) }
+    ensures long { IfOk result (λ made. length made.1.items ≡ 64) }
+{
+    let matrix = code(rt);
+    let head = ImageHead::new(matrix.shape(), 8, 1)?;
+    assert!(rt; head.version() == 1 && head.stripes() == 1);
+    assert!(rt; head.n() == matrix.shape().n() && head.w() == matrix.shape().w());
+    assert!(rt; head.symbols() == 8 && head.bytes() == 8);
+    let plans = plans(rt, alloc, &head, &matrix)?;
+    let bytes = symbols(alloc, [255, 255, 4, 8, 5, 10, 11, 6])?;
+    let mut image = VecDeque::new(alloc);
+    image.push_back(Vec::from_slice(alloc, &bytes)?)?;
+    let asked = script.as_bytes();
+    assert!(rt; asked.len() <= OPS_LIMIT);
+    let ops = read_ops(alloc, asked, &head, matrix.shape().k())?;
+    Ok((terms(head, matrix, plans, &image, ops), bytes))
+}
+
 #[test]
 fn one_stripe(rt: HostRuntime) -> Result<(), Fail> {
-    let matrix = code(&rt);
-    let head = ImageHead::new(matrix.shape(), 8, 1)?;
-    assert!(&rt; head.version() == 1 && head.stripes() == 1);
-    assert!(&rt; head.n() == matrix.shape().n() && head.w() == matrix.shape().w());
-    assert!(&rt; head.symbols() == 8 && head.bytes() == 8);
-    let plans = plans(&rt, rt.alloc(), &head, &matrix)?;
-    let bytes = symbols(rt.alloc(), [255, 255, 4, 8, 5, 10, 11, 6])?;
-    let copy = Vec::from_slice(rt.alloc(), &bytes)?;
-    let mut image = VecDeque::new(rt.alloc());
-    image.push_back(copy)?;
-    let terms = terms(rt.alloc(), head, matrix, plans, &image);
+    let (terms, bytes) = lost_stripe(&rt, rt.alloc(), "")?;
+    assert!(&rt; terms.ops.is_empty());
     let (locks, seat) = locks(rt.alloc(), &terms, bytes)?;
     let kernel = XorKernel::new(block_plain);
     let server = Server {
@@ -150,5 +168,37 @@ fn one_stripe(rt: HostRuntime) -> Result<(), Fail> {
     let kept = &stripes[0];
     assert!(&rt; kept.history() == [Entry::Mend].as_slice());
     assert!(&rt; kept.symbol(&terms.head, 1) == [2; 8].as_slice());
+    Ok(())
+}
+
+/// Reads and a write of one stripe that is not whole.
+const ASKS: &str = "r 0 1
+w 0 1010101010101010202020202020202040404040404040408080808080808080
+r 0 1
+";
+
+/// A lost symbol is read by its recipe, then the stripe is written, and read again.
+#[test]
+fn asks(rt: HostRuntime) -> Result<(), Fail> {
+    let (terms, bytes) = lost_stripe(&rt, rt.alloc(), ASKS)?;
+    assert!(&rt; terms.ops.len() == 3);
+    let kernel = XorKernel::new(block_plain);
+    let server = Server {
+        terms: &terms,
+        kernel: &kernel,
+    };
+    let mut kept = KeptStripe::of(rt.alloc(), bytes, 3)?;
+    let mut reply = [0; 8];
+    server.ask(&mut kept, 0, &mut reply);
+    assert!(&rt; reply == [2; 8]);
+    server.ask(&mut kept, 1, &mut reply);
+    server.ask(&mut kept, 2, &mut reply);
+    assert!(&rt; reply == [32; 8]);
+    let history = [
+        Entry::Ask { number: 0 },
+        Entry::Ask { number: 1 },
+        Entry::Ask { number: 2 },
+    ];
+    assert!(&rt; kept.history() == history.as_slice());
     Ok(())
 }
