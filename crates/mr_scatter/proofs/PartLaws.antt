@@ -1,7 +1,6 @@
 -- Parts that are written one after another.
-use Rattle.std.proofs.Common.{◌≡◌, ℕ, zero, suc, add-one, ap₂, ◌+◌, ◌-◌, ◌*◌, ◌^◌, ◌<◌, ◌≤◌, ◌⊎◌, inl, inr, ⊎_elim, List, [], ◌++◌, flat_map, length, take, drop, get_or, max, set, sym, ap, subst, ◌∙◌, refl, arith, zero-add, zero-mul, append_assoc, length-append, length-take, length-drop}
+use Rattle.std.proofs.Common.{◌≡◌, ℕ, zero, suc, add-one, ap₂, ◌+◌, ◌-◌, ◌*◌, ◌^◌, ◌<◌, ◌≤◌, ◌⊎◌, inl, inr, ⊎_elim, List, [], ◌++◌, length, take, drop, get_or, max, set, sym, ap, subst, ◌∙◌, refl, arith, zero-add, zero-mul, length-append, length-take, length-drop}
 use Rattle.std.specs.Prelude.{◌≢◌, All, Option, None, Some, IfSome}
-use Rattle.std.specs.List.{range_with_len}
 use Rattle.std.specs.Option.{ForSome}
 use Rattle.std.specs.Io.KnownBytes.{Consumes, IsAtEnd}
 use Rattle.std.proofs.Math.Nat.{add-mul, suc-mul, mul_assoc, mul-le-mul_right}
@@ -21,7 +20,7 @@ use Rattle.mr_devices.specs.Writing.{IsWritten, Shelf, Writes}
 use Rattle.mr_devices.proofs.WriteLaws.{written-none}
 use Rattle.mr_io.proofs.Consuming.{consumes_nothing, consumes_more}
 use Rattle.mr_encode.proofs.ColumnLaws.{place_end}
-use Rattle.mr_scatter.specs.Parts.{StoresIn, Stores, HasOpen, device_text, part_in}
+use Rattle.mr_scatter.specs.Parts.{StoresIn, Stores, device_text, part_in}
 
 -- what is read into the middle of a buffer
 module _ (a k n : ℕ) (xs ys : List ℕ) (low : a ≤ length xs) (few : n ≤ length ys) where
@@ -165,20 +164,21 @@ module _ (l : Layout) (d : ℕ) (low : d < l.devices) where
   part-length n s body long below =
       omega (arith, part_low n s body long below, length-take (part_bytes l) (drop (s * size_of_stripe + d * part_bytes l) body), length-drop (s * size_of_stripe + d * part_bytes l) body)
 
-  text_length : (n m : ℕ) (body : List ℕ) → length body ≡ n * size_of_stripe → m ≤ n → length (device_text l body d m) ≡ m * part_bytes l
-  text_length n zero body long few = sym (zero-mul (part_bytes l))
-  text_length n (suc m) body long few =
+  -- so many parts have their bytes
+  pub text-length : (n m : ℕ) (body : List ℕ) → length body ≡ n * size_of_stripe → m ≤ n → length (device_text l body d m) ≡ m * part_bytes l
+  text-length n zero body long few = sym (zero-mul (part_bytes l))
+  text-length n (suc m) body long few =
       ap (λ k. length (device_text l body d k)) (sym (add-one m))
       ∙ ap length (flat_map-more (λ s. part_in l body s d) 0 m)
-      ∙ omega (arith, length-append (device_text l body d m) (part_in l body (0 + m) d), text_length n m body long (omega (arith, few)), part-length n (0 + m) body long (omega (arith, few)), suc-mul m (part_bytes l))
+      ∙ omega (arith, length-append (device_text l body d m) (part_in l body (0 + m) d), text-length n m body long (omega (arith, few)), part-length n (0 + m) body long (omega (arith, few)), suc-mul m (part_bytes l))
 
   -- the stripes so far are the same where more follow
-  text_same : (n m : ℕ) (body more : List ℕ) → length body ≡ n * size_of_stripe → m ≤ n → device_text l (body ++ more) d m ≡ device_text l body d m
-  text_same n zero body more long few = refl
-  text_same n (suc m) body more long few =
+  pub text-front : (n m : ℕ) (body more : List ℕ) → length body ≡ n * size_of_stripe → m ≤ n → device_text l (body ++ more) d m ≡ device_text l body d m
+  text-front n zero body more long few = refl
+  text-front n (suc m) body more long few =
       ap (λ k. device_text l (body ++ more) d k) (sym (add-one m))
       ∙ flat_map-more (λ s. part_in l (body ++ more) s d) 0 m
-      ∙ ap₂ (λ xs ys. xs ++ ys) (text_same n m body more long (omega (arith, few)))
+      ∙ ap₂ (λ xs ys. xs ++ ys) (text-front n m body more long (omega (arith, few)))
       (in_front ((0 + m) * size_of_stripe + d * part_bytes l) (part_bytes l) body more (part_low n (0 + m) body long (omega (arith, few))))
       ∙ sym (flat_map-more (λ s. part_in l body s d) 0 m)
       ∙ ap (λ k. device_text l body d k) (add-one m)
@@ -190,16 +190,20 @@ module _ (l : Layout) (d : ℕ) (low : d < l.devices) where
       ∙ ap (take (part_bytes l)) (drop-append-add body more (d * part_bytes l))
       ∙ ap (λ k. take (part_bytes l) (drop k more)) (omega (arith, zero-mul size_of_stripe))
 
+  -- the parts of one stripe more
+  pub text-more : (n : ℕ) (body more : List ℕ) → length body ≡ n * size_of_stripe → device_text l (body ++ more) d (n + 1) ≡ device_text l body d n ++ part_in l more 0 d
+  text-more n body more long =
+      flat_map-more (λ s. part_in l (body ++ more) s d) 0 n ∙ ap₂ (λ xs ys. xs ++ ys) (text-front n n body more long (omega arith)) (next_part n body more long)
+
   -- one stripe more is written
   pub text-turn : (n first : ℕ) (body more old mid new : List ℕ) → length body ≡ n * size_of_stripe
       → IsWritten (first * part_bytes l) (device_text l body d n) old mid
       → IsWritten ((first + n) * part_bytes l) (part_in l more 0 d) mid new
       → IsWritten (first * part_bytes l) (device_text l (body ++ more) d (n + 1)) old new
   text-turn n first body more old mid new long so_far next =
-      subst (λ text. IsWritten (first * part_bytes l) text old new)
-      (ap₂ (λ xs ys. xs ++ ys) (sym (text_same n n body more long (omega arith))) (sym (next_part n body more long)) ∙ sym (flat_map-more (λ s. part_in l (body ++ more) s d) 0 n))
+      subst (λ text. IsWritten (first * part_bytes l) text old new) (sym (text-more n body more long))
       (written-more (first * part_bytes l) ((first + n) * part_bytes l) (device_text l body d n) (part_in l more 0 d) old mid new
-      (omega (arith, text_length n n body long (omega arith), add-mul first n (part_bytes l))) so_far next)
+      (omega (arith, text-length n n body long (omega arith), add-mul first n (part_bytes l))) so_far next)
 
 -- ---- where they stand
 

@@ -15,3 +15,11 @@ pub enum ScatterFault {
     #[error("write")]
     Write,
 }
+
+/// Where the scattering of an image stopped: of so many stripes, from the first on, all parts were written; and why.
+#[derive(Clone, Copy, Debug, PartialEq, Eq, Error)]
+#[error("{fault} behind {stripes} stripes")]
+pub struct Stopped {
+    pub stripes: u32,
+    pub fault: ScatterFault,
+}

@@ -6,7 +6,7 @@ mod filling;
 mod scattering;
 mod stripes;
 
-pub use errors::ScatterFault;
+pub use errors::{ScatterFault, Stopped};
 pub use filling::fill;
 pub use scattering::scatter;
 pub use stripes::Scattering;

@@ -1,10 +1,10 @@
 //! One stripe, of which the parts of the lost devices are written.
 
-ghost use Rattle.std.specs.Prelude.{◌≡◌, ℕ, List, ◌+◌, ◌*◌, ◌^◌, ◌<◌, ◌≤◌, get_or, length, None, All, OnOk};
+ghost use Rattle.std.specs.Prelude.{◌≡◌, ℕ, List, ◌+◌, ◌*◌, ◌^◌, ◌<◌, ◌≤◌, get_or, length, None, All, OnErr, OnOk};
 ghost use Rattle.mr_image.specs.Images.{stripe_symbols};
 ghost use Rattle.mr_io.specs.Counts.{HasCause};
 ghost use Rattle.mr_devices.specs.Places.{part_bytes};
-ghost use Rattle.mr_scatter.specs.Parts.{Stores, HasOpen, part_in};
+ghost use Rattle.mr_scatter.specs.Parts.{HasOpen, Stores, StoresFront, part_in};
 
 use mr_devices::Devices;
 use mr_image::ImageHead;
@@ -19,7 +19,8 @@ pub struct Scattering<'a> {
     pub lost: &'a [u8],
 }
 
-/// Writes of stripe `number`, whose bytes these are, the part of each lost device to its place, and nothing else.
+/// Writes of stripe `number`, whose bytes these are, the part of each lost device to its place, and nothing else. After
+/// `Failed` each file has a front of its part.
 pub(crate) fn scatter_stripe<D: Devices>(
     devices: &mut D,
     scattering: &Scattering,
@@ -31,6 +32,9 @@ pub(crate) fn scatter_stripe<D: Devices>(
     requires stripe { length stripe.now
         ≡ stripe_symbols scattering.now.head * scattering.now.head.symbol_bytes }
     ensures stored { OnOk result (Stores (D.told devices.old) (D.told devices.new)
+        (λ k. (scattering.now.first + number) * part_bytes scattering.now.head)
+        (λ k. part_in scattering.now.head stripe.now 0 (get_or scattering.now.lost.now k 0))) }
+    ensures front { OnErr result (StoresFront 0 (D.told devices.old) (D.told devices.new)
         (λ k. (scattering.now.first + number) * part_bytes scattering.now.head)
         (λ k. part_in scattering.now.head stripe.now 0 (get_or scattering.now.lost.now k 0))) }
     ensures untold { D.told devices.old ≡ None → D.told devices.new ≡ None }

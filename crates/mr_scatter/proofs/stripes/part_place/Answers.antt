@@ -1,6 +1,5 @@
-use Rattle.std.proofs.Common.{◌≡◌, ℕ, ◌+◌, ◌*◌, ◌^◌, ◌≤◌, ◌∙◌, ap₂, sym, subst, arith}
-use Rattle.mr_devices.specs.Places.{part_bytes}
-use Rattle.mr_scatter.proofs.PartLaws.{part-few, place-few}
+use Rattle.std.proofs.Common.{◌+◌, arith}
+use Rattle.mr_scatter.proofs.PartLaws.{place-few}
 use Rattle.mr_scatter.proofs.stripes.part_place.Goals as goal
 
 pub overflow_mul-result : goal.overflow_mul-result
