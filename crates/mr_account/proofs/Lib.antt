@@ -1,0 +1,3 @@
+pub mod EndingLaws
+pub mod OrderLaws
+pub mod Ranges
