@@ -1,0 +1,5 @@
+pub mod Devices
+pub mod Gather
+pub mod Reads
+pub mod Scatter
+pub mod Words
