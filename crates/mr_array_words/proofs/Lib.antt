@@ -1,0 +1,7 @@
+pub mod Answering
+pub mod Counted
+pub mod Each
+pub mod Hyphen
+pub mod Listing
+pub mod Names
+pub mod Places

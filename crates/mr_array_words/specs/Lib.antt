@@ -1,3 +1,4 @@
+pub mod Counting
 pub mod Devices
 pub mod Gather
 pub mod Reads

@@ -1,9 +1,9 @@
 -- `scatter MATRIX FIRST LOST DEVICE..`
-use Rattle.std.specs.Prelude.{List, None, Option, Some, [], codes, if◌then◌else◌, length, ℕ, ◌++◌, ◌==◌, ◌∷◌}
+use Rattle.std.specs.Prelude.{List, None, Option, Some, [], codes, if◌then◌else◌, length, ℕ, ◌==◌, ◌∷◌}
 use Rattle.mr_words.specs.Grammar.{Syntax, Text, ◌>>=◌}
 use Rattle.mr_words.specs.Lost.{lost_numbers}
 use Rattle.mr_words.specs.Texts.{file_of, lost_of, number_in}
-use Rattle.mr_array_words.specs.Devices.{asked_with, count_in, device_names, each_of}
+use Rattle.mr_array_words.specs.Devices.{asked_with, count_in, each_of}
 use Rattle.mr_array_words.specs.declared.scatter_words.ScatterWords.{ScatterWords}
 
 -- what is asked: texts by their characters
@@ -22,10 +22,10 @@ scatter_asked words = record {
   devices = words.devices.items;
 }
 
--- with so many devices
-abbrev pub scatter_syntax : ℕ → Syntax
-scatter_syntax count = record {
-  places = (codes "matrix" ∷ codes "first" ∷ codes "lost" ∷ []) ++ device_names count;
+-- the places, where those of the devices have these names
+abbrev pub scatter_syntax : List Text → Syntax
+scatter_syntax devices = record {
+  places = codes "matrix" ∷ codes "first" ∷ codes "lost" ∷ devices;
   valued = [];
   flags = [];
 }
@@ -34,13 +34,16 @@ scatter_syntax count = record {
 abbrev pub lost_with : ℕ → List ℕ → Option (List ℕ)
 lost_with count lost = if length (lost_numbers lost) == count then Some lost else None
 
+abbrev pub lost_list_of : ℕ → Option Text → Option (List ℕ)
+lost_list_of count text = lost_of text >>= lost_with count
+
 -- what the texts of the names mean
-abbrev pub scatter_from : ℕ → (Text → Option Text) → Option ScatterAsked
-scatter_from count text = do
+abbrev pub scatter_from : List Text → (Text → Option Text) → Option ScatterAsked
+scatter_from names text = do
   matrix ← file_of (text (codes "matrix"))
   first ← number_in (text (codes "first"))
-  lost ← lost_of (text (codes "lost")) >>= lost_with count
-  devices ← each_of (λ name. file_of (text name)) (device_names count)
+  lost ← lost_list_of (length names) (text (codes "lost"))
+  devices ← each_of (λ name. file_of (text name)) names
   Some (record { matrix = matrix; first = first; lost = lost; devices = devices })
 
 -- what the words after `scatter` ask: there are 0 to 128 devices

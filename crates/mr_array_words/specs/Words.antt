@@ -16,9 +16,13 @@ abbrev pub array_asked : ArrayWords → ArrayAsked
 array_asked (Gather words) = to_gather (gather_asked words)
 array_asked (Scatter words) = to_scatter (scatter_asked words)
 
+-- what the words after the command ask
+abbrev pub command_asked : Text → List Text → Option ArrayAsked
+command_asked command words =
+    if bytes_eq command (codes "gather") then option_map to_gather (gather_of words)
+    else (if bytes_eq command (codes "scatter") then option_map to_scatter (scatter_of words) else None)
+
 -- what the words after the program's name ask, if they are in the grammar
 unfoldable pub array_words_of : List Text → Option ArrayAsked
 array_words_of [] = None
-array_words_of (command ∷ words) =
-    if bytes_eq command (codes "gather") then option_map to_gather (gather_of words)
-    else (if bytes_eq command (codes "scatter") then option_map to_scatter (scatter_of words) else None)
+array_words_of (command ∷ words) = command_asked command words
