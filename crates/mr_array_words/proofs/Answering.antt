@@ -1,5 +1,5 @@
 -- How the readers go on where a step before them answers no value.
-use Rattle.std.proofs.Common.{◌≡◌, ℕ, List, drop, Option, Some, None, Result, Ok, Err, cond, true, false, sym, ap, subst, refl}
+use Rattle.std.proofs.Common.{◌≡◌, ℕ, List, drop, Option, None, Result, Ok, Err, cond, false, sym, ap, subst, refl}
 use Rattle.std.proofs.lemmas.Result.{err_from_is_err_and}
 use Rattle.std.specs.Result.{IsErrAnd, is_err, is_ok, result_map_both}
 use Rattle.clap.specs.Words.{first_value, found_of}

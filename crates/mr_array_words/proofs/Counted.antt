@@ -149,6 +149,10 @@ module _ (syntax : List Text → Syntax) (before : ℕ) (long : (names : List Te
       go (Some given) is e = places_are (syntax (device_names count)) (no_flags (device_names count)) words given is
           ∙ long (device_names count) ∙ ap (λ n. before + n) (length-map-range_with_len decimal 0 count)
 
+  -- it takes them with one number of devices at most
+  pub only_one : (j k : ℕ) → takes j ≡ true → takes k ≡ true → j ≡ k
+  only_one j k e f = omega (arith, count_is j e, count_is k f)
+
   none_taken : (least numbers : ℕ) → ((j : ℕ) → least ≤ j → j < least + numbers → takes j ≡ false) → find takes (range_with_len least numbers) ≡ None
   none_taken least zero h = refl
   none_taken least (suc n) h = ap (λ b. cond b (Some least) (find takes (range_with_len (least + 1) n))) (h least (omega arith) (omega arith))

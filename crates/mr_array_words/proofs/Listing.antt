@@ -1,5 +1,5 @@
 -- How many numbers a LOST word has, counted a part at a time.
-use Rattle.std.proofs.Common.{◌≡◌, ◌∙◌, ◌+◌, ◌<◌, ◌≤◌, ℕ, List, [], ◌∷◌, drop, length, filter_map, Option, Some, None, refl, sym, ap, arith, inl, inr, is_some, true, false, ◌==◌}
+use Rattle.std.proofs.Common.{◌≡◌, ◌∙◌, ◌+◌, ◌<◌, ◌≤◌, ℕ, List, ◌∷◌, drop, length, filter_map, Option, Some, None, refl, sym, ap, arith, inl, inr, is_some, true, false, ◌==◌}
 use Rattle.std.specs.List.{cons_option, slice_index_or}
 use Rattle.std.proofs.lemmas.List.{at_drop_all, at_drop_more}
 use Rattle.std.proofs.lemmas.Bool.{eq-eqb, ne_eqb}

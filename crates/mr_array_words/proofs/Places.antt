@@ -1,5 +1,5 @@
 -- The places among words, counted a word at a time.
-use Rattle.std.proofs.Common.{◌≡◌, ◌∙◌, ◌+◌, ◌-◌, ◌<◌, ◌≤◌, ◌&&◌, ℕ, Bool, true, false, nat_le, Some, None, arith, cond, List, [], ◌∷◌, drop, length, map, string_bytes, refl, sym, ap}
+use Rattle.std.proofs.Common.{◌≡◌, ◌∙◌, ◌+◌, ◌-◌, ◌<◌, ◌≤◌, ◌&&◌, ℕ, Bool, true, false, nat_le, Some, None, arith, cond, List, ◌∷◌, drop, length, map, string_bytes, refl, sym, ap}
 use Rattle.std.specs.Prelude.{String}
 use Rattle.std.specs.List.{slice_index_or}
 use Rattle.std.proofs.lemmas.Bool.{and_from, le-leb, lt-leb}

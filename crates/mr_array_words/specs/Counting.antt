@@ -1,6 +1,6 @@
 -- How many words are places, where the words are in the grammar.
 use Rattle.std.specs.Prelude.{Bool, List, None, Option, Some, [], false, if◌then◌else◌, nat_le, true, ℕ, ◌&&◌, ◌+◌, ◌-◌, ◌∷◌}
-use Rattle.mr_words.specs.Grammar.{Text, Word, dashes, option, plain, strange, word_of}
+use Rattle.mr_words.specs.Grammar.{Text, Word, dashes, option, plain, word_of}
 use Rattle.mr_array_words.specs.declared.counting.TheConstants.{DEVICE_LIMIT}
 use Rattle.mr_array_words.specs.declared.counting.Turn.{Turn}
 use Rattle.mr_array_words.specs.declared.counting.Turn.TheVariants.{Any, Place, Value}

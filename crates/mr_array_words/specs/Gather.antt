@@ -1,5 +1,5 @@
 -- `gather MATRIX BYTES FIRST STRIPES [--plan FILE] DEVICE..`
-use Rattle.std.specs.Prelude.{List, None, Option, Some, [], bytes_eq, codes, if◌then◌else◌, option_map, ℕ, ◌++◌, ◌∷◌}
+use Rattle.std.specs.Prelude.{List, None, Option, Some, [], bytes_eq, codes, if◌then◌else◌, option_map, ℕ, ◌∷◌}
 use Rattle.mr_words.specs.Grammar.{Syntax, Text, ◌>>=◌}
 use Rattle.mr_words.specs.Texts.{file_of, file_or_none, number_in}
 use Rattle.mr_array_words.specs.Devices.{asked_with, count_in, each_of}

@@ -12,6 +12,10 @@ mod lists;
 mod scatter_words;
 mod words;
 
+pub use counting::DEVICE_LIMIT;
 pub use gather_words::GatherWords;
 pub use scatter_words::ScatterWords;
 pub use words::{ArrayWords, read_array_words};
+
+#[cfg(test)]
+mod tests;

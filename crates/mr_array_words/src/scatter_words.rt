@@ -41,11 +41,7 @@ pub(crate) fn read_scatter(alloc: Global, words: &[String]) -> Result<ScatterWor
 }
 
 /// Reads the words of `scatter` with so many devices.
-fn read_devices(
-    alloc: Global,
-    words: &[String],
-    count: usize,
-) -> Result<ScatterWords, WordsError>
+fn read_devices(alloc: Global, words: &[String], count: usize) -> Result<ScatterWords, WordsError>
     requires { count ≤ DEVICE_LIMIT }
     ensures { ReadsAs scatter_asked
         (asked_with scatter_syntax scatter_from count (drop 1 (map string_bytes words.now))) result }

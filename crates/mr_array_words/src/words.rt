@@ -41,11 +41,7 @@ fn read_command(alloc: Global, words: &[String]) -> Result<ArrayWords, WordsErro
 }
 
 /// Reads the words, of which the first is the command.
-fn read_named(
-    alloc: Global,
-    command: &str,
-    words: &[String],
-) -> Result<ArrayWords, WordsError>
+fn read_named(alloc: Global, command: &str, words: &[String]) -> Result<ArrayWords, WordsError>
     ensures { ReadsAs array_asked (command_asked command.now (drop 1 (map string_bytes words.now))) result }
 {
     match command {

@@ -1,4 +1,4 @@
-use Rattle.std.proofs.Common.{rules, arith, ◌≡◌, ◌∙◌, ◌+◌, ◌≤◌, sym, ap, length, true, false}
+use Rattle.std.proofs.Common.{arith, ◌∙◌, sym, ap, true, false}
 use Rattle.mr_array_words.specs.Counting.{is_place, turn_after}
 use Rattle.mr_array_words.proofs.Places.{counted_on, none_left}
 use Rattle.mr_array_words.proofs.counting.count_places.Goals.{then-is_place, else-is_place}

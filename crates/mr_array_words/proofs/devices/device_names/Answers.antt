@@ -1,7 +1,6 @@
-use Rattle.std.proofs.Common.{rules, arith, ◌≡◌, ◌∙◌, ◌+◌, ◌++◌, [], ◌∷◌, sym, ap, map, string_bytes, decimal}
+use Rattle.std.proofs.Common.{arith, ◌∙◌, ◌++◌, [], ◌∷◌, sym, ap, map, string_bytes, decimal}
 use Rattle.std.proofs.lemmas.List.{map-append}
 use Rattle.std.proofs.lemmas.List.FromFn.{map-range_with_len_more}
-use Rattle.mr_array_words.specs.Devices.{device_names}
 use Rattle.mr_array_words.proofs.devices.device_names.Goals as goal
 
 pub loop-number-preserved : goal.loop-number-preserved

@@ -1,7 +1,6 @@
-use Rattle.std.proofs.Common.{◌≡◌, ◌∙◌, Some, None, cond, option_map, sym, ap}
+use Rattle.std.proofs.Common.{◌∙◌, Some, None, cond, option_map, sym, ap}
 use Rattle.std.specs.Str.{bytes_eq}
-use Rattle.clap.specs.Words.{first_value, found_of}
-use Rattle.mr_array_words.specs.Gather.{gather_device, kept_file}
+use Rattle.mr_array_words.specs.Gather.{kept_file}
 use Rattle.mr_array_words.proofs.Hyphen.{hyphen_is}
 use Rattle.mr_array_words.proofs.devices.gather_device.Goals as goal
 

@@ -1,4 +1,4 @@
-use Rattle.std.proofs.Common.{rules, arith, ◌≡◌, ◌∙◌, ◌+◌, ◌++◌, [], ◌∷◌, cond, Option, Some, None, map, string_bytes, sym, ap, subst, false}
+use Rattle.std.proofs.Common.{arith, ◌∙◌, ◌+◌, ◌++◌, [], ◌∷◌, map, string_bytes, sym, ap, subst}
 use Rattle.clap.specs.Words.{first_value, found_of}
 use Rattle.mr_array_words.specs.Gather.{gather_device}
 use Rattle.mr_array_words.specs.Devices.{each_of}

@@ -1,4 +1,4 @@
-use Rattle.std.proofs.Common.{rules, arith, ◌≡◌, ◌∙◌, codes, map, string_bytes, refl, sym, ap}
+use Rattle.std.proofs.Common.{◌∙◌, codes, map, string_bytes, refl, sym, ap}
 use Rattle.mr_words.specs.Clap.{app_for}
 use Rattle.mr_array_words.specs.Gather.{gather_asked, gather_from, gather_syntax}
 use Rattle.mr_array_words.specs.Devices.{device_names}

@@ -1,4 +1,4 @@
-use Rattle.std.proofs.Common.{rules, ◌≡◌, ◌∙◌, ◌==◌, cond, Some, None, length, sym, ap}
+use Rattle.std.proofs.Common.{◌∙◌, ◌==◌, cond, Some, None, length, sym, ap}
 use Rattle.mr_words.specs.Grammar.{◌>>=◌}
 use Rattle.mr_words.specs.Lost.{lost_numbers}
 use Rattle.mr_words.proofs.LostCharacters.{lost_numbers_encoded}

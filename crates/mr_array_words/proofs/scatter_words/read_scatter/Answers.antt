@@ -1,4 +1,4 @@
-use Rattle.std.proofs.Common.{rules, arith, ◌≡◌, ◌∙◌, drop, map, string_bytes, refl, sym, subst, Err}
+use Rattle.std.proofs.Common.{arith, ◌∙◌, drop, map, string_bytes, refl, sym, subst}
 use Rattle.mr_array_words.specs.Scatter.{scatter_asked, scatter_from, scatter_syntax}
 use Rattle.mr_array_words.specs.Reads.{ReadsAs}
 use Rattle.mr_array_words.proofs.Counted.{none_between, one_between}
