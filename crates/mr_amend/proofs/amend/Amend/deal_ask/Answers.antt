@@ -1,0 +1,28 @@
+use Rattle.std.proofs.Common.{rules, ◌≡◌, [], length, ap, ◌∙◌}
+use Rattle.std.proofs.lemmas.List.{nil_from_length}
+use Rattle.mr_locks.specs.Rule.{Mine}
+use Rattle.mr_amend.specs.Callers.{view}
+use Rattle.mr_amend.proofs.Deals.{gave_ask, got_ask, got_no_ask, no_ask}
+use Rattle.mr_amend.proofs.amend.Amend.deal_ask.Goals as goal
+
+pub returns-in_default-clause-left : goal.returns-in_default-clause-left
+returns-in_default-clause-left c =
+    let v = view c.args.giver.now in
+    let giver = c.args.giver.now in
+    let empty : length giver.asks.items ≡ 0 = search rules in
+    let none : v.asks ≡ [] = giver.asks_left ∙ nil_from_length giver.asks.items empty in no_ask v v none
+
+pub returns-in_default-clause-dealt : goal.returns-in_default-clause-dealt
+returns-in_default-clause-dealt c =
+    let v = view c.args.giver.now in
+    let giver = c.args.giver.now in
+    let empty : length giver.asks.items ≡ 0 = search rules in
+    let none : v.asks ≡ [] = giver.asks_left ∙ nil_from_length giver.asks.items empty in got_no_ask v (view c.args.taker.now) none
+
+pub returns-clause-giver : goal.returns-clause-giver
+returns-clause-giver c =
+    gave_ask c.args.self.now c.args.giver.now _ c.requires.giver c.deal_ask.ensures.giver (ap (λ (m : Mine). m.0) c.deal_ask.ensures.left)
+
+pub returns-clause-taker : goal.returns-clause-taker
+returns-clause-taker c =
+    got_ask c.args.self.now c.args.giver.now c.args.taker.now _ c.requires.giver c.requires.taker c.deal_ask.ensures.taker (ap (λ (m : Mine). m.0) c.deal_ask.ensures.dealt)
