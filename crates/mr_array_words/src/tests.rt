@@ -1,6 +1,7 @@
 //! Words of both commands, read with ample memory.
 
 use crate::{ArrayWords, read_array_words};
+use mr_io::Text;
 use std::alloc::{AllocError, Global};
 use std::test::Fail;
 
@@ -13,28 +14,28 @@ fn words_in(alloc: Global, line: &str) -> Result<Vec<String>, AllocError> {
     Ok(words)
 }
 
+fn is_named(device: &Option<Text>, name: &str) -> bool {
+    match device {
+        Some(text) => text.is(name),
+        None => false,
+    }
+}
+
 /// An option among the places, and a lost device.
 #[test]
 fn words_of_gather(rt: HostRuntime) -> Result<(), Fail> {
     let words = words_in(rt.alloc(), "arrays gather m 8 2 4 a --plan p - -- --b")?;
-    let Ok(ArrayWords::Gather(read)) = read_array_words(rt.alloc(), &words) else {
-        return Err(Fail);
-    };
-    assert_eq!(rt; read.matrix.as_str(), "m");
-    assert_eq!(rt; read.bytes, 8);
-    assert_eq!(rt; read.first, 2);
-    assert_eq!(rt; read.stripes, 4);
-    assert_eq!(rt; read.plan.as_ref().map(|name| name.as_str()), Some("p"));
-    assert_eq!(rt; read.devices.len(), 3);
-    assert_eq!(rt;
-        read.devices[0].as_ref().map(|name| name.as_str()),
-        Some("a")
-    );
-    assert!(rt; read.devices[1].is_none());
-    assert_eq!(rt;
-        read.devices[2].as_ref().map(|name| name.as_str()),
-        Some("--b")
-    );
+    let answer = read_array_words(rt.alloc(), &words);
+    assert!(rt; matches!(answer, Ok(ArrayWords::Gather(_))));
+    if let Ok(ArrayWords::Gather(read)) = answer {
+        assert!(rt; read.matrix.is("m"));
+        assert_eq!(rt; (read.bytes, read.first, read.stripes), (8, 2, 4));
+        assert!(rt; is_named(&read.plan, "p"));
+        assert_eq!(rt; read.devices.len(), 3);
+        assert!(rt; is_named(&read.devices[0], "a"));
+        assert!(rt; read.devices[1].is_none());
+        assert!(rt; is_named(&read.devices[2], "--b"));
+    }
     Ok(())
 }
 
@@ -42,14 +43,15 @@ fn words_of_gather(rt: HostRuntime) -> Result<(), Fail> {
 #[test]
 fn words_of_scatter(rt: HostRuntime) -> Result<(), Fail> {
     let words = words_in(rt.alloc(), "arrays scatter m 2 0,3 - b")?;
-    let Ok(ArrayWords::Scatter(read)) = read_array_words(rt.alloc(), &words) else {
-        return Err(Fail);
-    };
-    assert_eq!(rt; read.matrix.as_str(), "m");
-    assert_eq!(rt; read.first, 2);
-    assert_eq!(rt; read.lost.as_str(), "0,3");
-    assert_eq!(rt; read.devices.len(), 2);
-    assert_eq!(rt; read.devices[0].as_str(), "-");
-    assert_eq!(rt; read.devices[1].as_str(), "b");
+    let answer = read_array_words(rt.alloc(), &words);
+    assert!(rt; matches!(answer, Ok(ArrayWords::Scatter(_))));
+    if let Ok(ArrayWords::Scatter(read)) = answer {
+        assert!(rt; read.matrix.is("m"));
+        assert_eq!(rt; read.first, 2);
+        assert!(rt; read.lost.is("0,3"));
+        assert_eq!(rt; read.devices.len(), 2);
+        assert!(rt; read.devices[0].is("-"));
+        assert!(rt; read.devices[1].is("b"));
+    }
     Ok(())
 }
