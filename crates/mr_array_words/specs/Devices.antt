@@ -14,7 +14,8 @@ count_in syntax least numbers words =
     find (λ count. is_some (given_of (syntax (device_names count)) words)) (range_with_len least numbers)
 
 -- what the words ask with so many devices
-abbrev pub asked_with : {X : Type 0} → (List Text → Syntax) → (List Text → (Text → Option Text) → Option X) → ℕ → List Text → Option X
+abbrev pub asked_with : {X : Type 0} → (List Text → Syntax)
+    → (List Text → (Text → Option Text) → Option X) → ℕ → List Text → Option X
 asked_with syntax from count words =
     given_of (syntax (device_names count)) words >>= (λ given. from (device_names count) (text_in given))
 

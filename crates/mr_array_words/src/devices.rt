@@ -56,7 +56,8 @@ pub(crate) fn gather_devices(
     names: &[String],
 ) -> Result<Vec<Option<Text>>, WordsError>
     ensures { ReadsAs (λ devices. devices.items)
-        (each_of (λ name. gather_device (first_value (found_of matches.now) name)) (map string_bytes names.now)) result }
+        (each_of (λ name. gather_device (first_value (found_of matches.now) name))
+        (map string_bytes names.now)) result }
 {
     let mut devices = Vec::new(alloc);
     for name in names {
@@ -91,7 +92,8 @@ pub(crate) fn scatter_devices(
     names: &[String],
 ) -> Result<Vec<Text>, WordsError>
     ensures { ReadsAs (λ devices. devices.items)
-        (each_of (λ name. file_of (first_value (found_of matches.now) name)) (map string_bytes names.now)) result }
+        (each_of (λ name. file_of (first_value (found_of matches.now) name))
+        (map string_bytes names.now)) result }
 {
     let mut devices = Vec::new(alloc);
     for name in names {
