@@ -1,0 +1,5 @@
+//! Tests of the command `scatter`. There is nothing here but tests.
+#![tactic(auto)]
+
+#[cfg(test)]
+mod tests;
