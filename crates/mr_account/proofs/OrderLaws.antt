@@ -21,7 +21,7 @@ same x y e = cc
 itself : (k : ℕ) (x : Entry) → Some x ≡ Some (Ask k) → weight (is_ask k) x ≡ 1
 itself k x e = ap (weight (is_ask k)) (same x (Ask k) e) ∙ ap (λ (b : Bool). cond b 1 0) (eq-eqb k k refl)
 
-here_one : (k i : ℕ) (es : List Entry) → slice_get es i ≡ Some (Ask k) → 1 ≤ count_by (is_ask k) es
+pub here_one : (k i : ℕ) (es : List Entry) → slice_get es i ≡ Some (Ask k) → 1 ≤ count_by (is_ask k) es
 here_one k i [] e = absurd (cc)
 here_one k zero (x ∷ es) e = let a = itself k x e in omega (arith, a, counted (is_ask k) x es)
 here_one k (suc i) (x ∷ es) e = omega (arith, here_one k i es e, counted (is_ask k) x es)

@@ -1,0 +1,6 @@
+pub mod ClosedLaws
+pub mod EndedLaws
+pub mod Finding
+pub mod Listing
+pub mod Serving
+pub mod Strides
