@@ -1,0 +1,12 @@
+pub mod Present
+pub mod Lending
+pub mod Retirings
+pub mod Losses
+pub mod Reaching
+pub mod TaskSteps
+pub mod Sights
+pub mod Counting
+pub mod AfterReads
+pub mod Devices
+pub mod AnswerSteps
+pub mod RunAnswers
