@@ -48,7 +48,7 @@ class Array:
         with open("array.data", "wb") as file:
             file.write(data)
         image = reads.run(["encode", MATRIX, "array.data", str(STRIPES), str(BYTES)]).stdout[HEAD:]
-        self.names = [os.path.abspath("disk%d" % device) for device in range(DEVICES)]
+        self.names = [os.path.abspath("disk's file %d" % device) for device in range(DEVICES)]
         self.whole = [b"".join(image[at:at + PART] for at in range(device * PART, len(image), DEVICES * PART))
                       for device in range(DEVICES)]
         for name, text in zip(self.names, self.whole):
