@@ -19,9 +19,6 @@ turn_by false None = Any
 abbrev turn_of : Reading → Turn
 turn_of r = turn_by r.is_past r.wants
 
-abbrev one_if : Bool → ℕ
-one_if b = cond b 1 0
-
 some_same : {X : Type 0} {x y : X} → ◌≡◌ {A = Option X} (Some x) (Some y) → x ≡ y
 some_same e = cc
 
@@ -58,7 +55,7 @@ unplaced r after e = omega (arith, e)
 
 -- what one word does to the places that are to come, and to what the next word may be
 abbrev Steps : Turn → Text → Reading → Reading → Type 0
-Steps turn word r after = (length r.left ≡ one_if (is_place turn word) + length after.left) × (turn_of after ≡ turn_after turn word)
+Steps turn word r after = (length r.left ≡ cond (is_place turn word) 1 0 + length after.left) × (turn_of after ≡ turn_after turn word)
 
 module _ (s : Syntax) (no_flags : (name : Text) → is_among name s.flags ≡ false) where
   module _ (word : Text) (r after : Reading) where
@@ -87,7 +84,7 @@ module _ (s : Syntax) (no_flags : (name : Text) → is_among name s.flags ≡ fa
     without_value name flag past false e = absurd (no_flag (is_among name s.flags) flag (no_flags name) e)
 
     as_free : r.is_past ≡ false → (w : Word) → read_free s word w r ≡ Some after
-        → (length r.left ≡ one_if (is_plain w) + length after.left) × (turn_of after ≡ behind w)
+        → (length r.left ≡ cond (is_plain w) 1 0 + length after.left) × (turn_of after ≡ behind w)
     as_free past dashes e = let same : record r { is_past = true } ≡ after = some_same e in
         (unplaced r after (ap (λ (x : Reading). length x.left) same), ap turn_of (sym same))
     as_free past (option name (Some value)) e = let p = with_value name value past (is_among name s.valued) e in (unplaced r after p.0, p.1)
@@ -112,7 +109,7 @@ module _ (s : Syntax) (no_flags : (name : Text) → is_among name s.flags ≡ fa
     where
       go : (o : Option Reading) → read_next s r word ≡ o → (o >>= read_from s words) ≡ Some end
           → ((next : Reading) → read_from s words next ≡ Some end → length next.left ≡ places_from (turn_of next) words + length end.left)
-          → length r.left ≡ (one_if (is_place (turn_of r) word) + places_from (turn_after (turn_of r) word) words) + length end.left
+          → length r.left ≡ (cond (is_place (turn_of r) word) 1 0 + places_from (turn_after (turn_of r) word) words) + length end.left
       go None is e rest = cc
       go (Some next) is e rest =
           let p = by_turn word r next r.is_past r.wants refl is in

@@ -3,16 +3,13 @@ use Rattle.std.proofs.Common.{◌≡◌, ℕ, zero, suc, ◌<◌, ◌≤◌, ◌
 use Rattle.std.proofs.lemmas.List.{get_or-map, get_or_default}
 use Rattle.std.proofs.lemmas.List.Sums.{sum_by-cons}
 use Rattle.std.proofs.lemmas.Nat.{mod_below}
-use Rattle.std.proofs.lemmas.Option.{slice_get-get_or}
 use Rattle.std.proofs.Math.Seq.{take-append_seam}
-use Rattle.mr_ops.specs.Ops.{IsOpOf}
 use Rattle.mr_ops.specs.declared.ops.Op.{Op}
-use Rattle.mr_ops.specs.declared.ops.Op.TheVariants.{Read, Write}
-use Rattle.mr_image.specs.Images.{Layout}
 use Rattle.mr_history.specs.declared.entry.Entry.{Entry}
 use Rattle.mr_history.specs.declared.entry.Entry.TheVariants.{Ask}
 use Rattle.mr_history.specs.declared.kept.KeptStripe.{KeptStripe}
-use Rattle.mr_history.specs.Histories.{IsReply, Names, PartsFit, stripe_asked, stripe_of, stripes, value}
+use Rattle.mr_history.specs.Histories.{IsReply, Names, stripe_of, stripes, value}
+use Rattle.mr_history.proofs.HistoryLaws.{stripe_low}
 use Rattle.mr_locks.specs.Calls.{made_of}
 use Rattle.mr_locks.specs.Seats.{IsClosed, names}
 use Rattle.mr_locks.specs.declared.view.LockView.{LockView}
@@ -40,17 +37,8 @@ sum_by-at f [] i d low = absurd (omega arith)
 sum_by-at f (x ∷ l) zero d low = omega (arith, sum_by-cons f x l)
 sum_by-at f (x ∷ l) (suc i) d low = omega (arith, sum_by-at f l i d (omega (arith, low)), sum_by-cons f x l)
 
-asked_low : (l : Layout) (k : ℕ) (op : Op) → IsOpOf l k op → stripe_asked (Some op) < l.stripes
-asked_low l k (Read t i) is = is.stripe
-asked_low l k (Write t p) is = is.0
-
 some_op : (ops : List Op) (k : ℕ) → k < length ops → Op
 some_op ops k low = some_in ops (omega (arith, low))
-
-pub stripe_low : (n : Names) (k : ℕ) → PartsFit n → k < length n.ops → stripe_of n k < stripes n
-stripe_low n k parts low =
-    let d = some_op n.ops k low in
-    subst (λ z. stripe_asked z < stripes n) (sym (slice_get-get_or n.ops k d low)) (asked_low n.head n.code.columns (get_or n.ops k d) (parts.ops k d low))
 
 module _ (b : Amend) (count : ℕ) (old new : List CallerJob) (kept : List KeptStripe) (some : 0 < count) (many_old : length old ≡ count) (many_new : length new ≡ count)
     (dealt : (c : ℕ) (d : CallerJob) → c < count → numbers_of (get_or old c d).slots.items ≡ every c count (length (names b.locks).ops))

@@ -12,7 +12,7 @@ use Rattle.mr_io.specs.Counts.{Rose, counted}
 use Rattle.mr_io.specs.Growth.{bytes_of, grown, taken_by}
 use Rattle.mr_io.specs.Sights.{Sight}
 use Rattle.mr_io.specs.Taking.{Held, Takes}
-use Rattle.mr_io.specs.Telling.{AsksFront, LendsFront, Told, told_asking, told_lending, told_returning}
+use Rattle.mr_io.specs.Telling.{AsksFront, Told, told_asking, told_lending, told_returning}
 use Rattle.mr_io.specs.declared.asked.Asked.{Asked}
 use Rattle.mr_io.specs.declared.duty.Duty.TheVariants.{Copy}
 use Rattle.mr_io.specs.declared.errors.FilesError.{FilesError}
@@ -32,7 +32,7 @@ use Rattle.mr_gather_run.specs.Slots.{HasCauses, HasShort, device_eyes, fresh_sl
 use Rattle.mr_gather_run.specs.Tasks.{CanGather, Task, device_bytes, devices_read, end_of, gathered_file, is_long, read_bytes}
 use Rattle.mr_gather_run.proofs.AfterReads.{quiet-all, rose-all, same-present, taken-all}
 use Rattle.mr_gather_run.proofs.Counting.{read-in-all}
-use Rattle.mr_gather_run.proofs.Lending.{asks-all, asks-front}
+use Rattle.mr_gather_run.proofs.Lending.{GivesBack, asks-all}
 use Rattle.mr_gather_run.proofs.Sights.{all-long, one-short, same-count, tells}
 
 -- what is read of device d
@@ -68,12 +68,12 @@ taken-is contents devices task = refl
 -- ---- an eye was not lent
 
 pub no-eye : (old between new : Option Told) (devices : List (Option (List ℕ))) (task : Task) (n : ℕ) (error : FilesError) (fault : Fault)
-    → ForSome old (λ told. LendsFront told between (device_eyes devices) n) → new ≡ option_map (told_returning n) between
+    → GivesBack old between (device_eyes devices) n → new ≡ option_map (told_returning n) between
     → IsFilesFault error fault
     → Reads {X = Unit {0}} (λ _. task) old new (Err fault) (λ contents. devices_read contents devices task)
 no-eye old between new devices task n error fault lends back is = λ told there. record {
   gives = unforeseen error is;
-  front = subst (AsksFront told new) (eyes-are told.contents devices task) (asks-front old between new (device_eyes devices) n lends back told there);
+  front = subst (AsksFront told new) (eyes-are told.contents devices task) (lends.asked new back told there);
   whole = λ ok. absurd (false≢true ok);
 }
   where

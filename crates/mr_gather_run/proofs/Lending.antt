@@ -138,22 +138,30 @@ refused-one old new name (Err Memory) failed memory = elim (memory refl) [
 
 -- ---- all are given back
 
--- there are as many lent
-pub can-return : (old between : Option Told) (all : List Asked) (n : ℕ) → ForSome old (λ told. LendsFront told between all n) → (old ≡ None → between ≡ None)
-    → IfSome between (λ told. n ≤ told.lent)
-can-return None between all n front untold = subst (λ o. IfSome o (λ (told : Told). n ≤ told.lent)) (sym (untold refl)) tt
-can-return (Some told) between all n front untold = subst (λ o. IfSome o (λ (told : Told). n ≤ told.lent)) (sym (front told refl).asked) (omega arith)
+-- As many eyes are lent as are there, and when these are given back a front of all was asked for.
+pub record GivesBack (old between : Option Told) (all : List Asked) (n : ℕ) : Type 0 where
+  pub lent : IfSome between (λ told. n ≤ told.lent)
+  pub asked : (new : Option Told) → new ≡ option_map (told_returning n) between → ForSome old (λ told. AsksFront told new all)
 
--- what was asked for stands
-pub asks-front : (old between new : Option Told) (all : List Asked) (n : ℕ) → ForSome old (λ told. LendsFront told between all n)
-    → new ≡ option_map (told_returning n) between → ForSome old (λ told. AsksFront told new all)
-asks-front old between new all n lends e told there =
-    let front = lends told there in
+pub gives-back : (old between : Option Told) (all : List Asked) (n : ℕ) → ForSome old (λ told. LendsFront told between all n) → (old ≡ None → between ≡ None)
+    → GivesBack old between all n
+gives-back None between all n lends untold = record {
+  lent = subst (λ o. IfSome o (λ (told : Told). n ≤ told.lent)) (sym (untold refl)) tt;
+  asked = λ new back told there. let clash : ◌≡◌ {A = Option Told} None (Some told) = there in cc;
+}
+gives-back (Some here) between all n lends untold =
+    let front = lends here refl in
     record {
-      count = front.count;
-      within = front.within;
-      asked = e ∙ ap (option_map (told_returning n)) front.asked ∙ ap Some (told-as told (told.lent + n - n) told.lent _ _ refl (omega arith));
+      lent = subst (λ o. IfSome o (λ (told : Told). n ≤ told.lent)) (sym front.asked) (omega arith);
+      asked = λ new back told there. subst (λ t. AsksFront t new all) (same there) (record {
+        count = front.count;
+        within = front.within;
+        asked = back ∙ ap (option_map (told_returning n)) front.asked ∙ ap Some (told-as here (here.lent + n - n) here.lent _ _ refl (omega arith));
+      });
     }
+  where
+    same : {told : Told} → ◌≡◌ {A = Option Told} (Some here) (Some told) → here ≡ told
+    same e = cc
 
 -- all of it
 pub asks-all : (old between new : Option Told) (all : List Asked) (n : ℕ) → between ≡ option_map (told_lending all n) old
@@ -161,8 +169,3 @@ pub asks-all : (old between new : Option Told) (all : List Asked) (n : ℕ) → 
 asks-all old between new all n lent e told there =
     e ∙ ap (option_map (told_returning n)) (lent ∙ ap (option_map (told_lending all n)) there)
     ∙ ap Some (told-as told (told.lent + n - n) told.lent _ _ refl (omega arith))
-
--- what holds anyway holds after an error
-pub on-err : {T E : Type 0} {P : Type 0} (result : Result T E) → P → OnErr result P
-on-err (Ok value) p = tt
-on-err (Err error) p = p

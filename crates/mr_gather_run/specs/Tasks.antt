@@ -2,6 +2,7 @@
 use Rattle.std.specs.Prelude.{ℕ, ◌+◌, ◌*◌, ◌/◌, ◌^◌, ◌<◌, ◌≡◌, ◌==◌, true, Bool, List, [], ◌∷◌, codes, decimal, get_or, length, min, nat_le, IsSome, Option, None, Some, Result, Ok, Err, if◌then◌else◌}
 use Rattle.std.specs.List.{list_all}
 use Rattle.std.specs.Option.{is_none}
+use Rattle.std.specs.Result.{result_map_both}
 use Rattle.mr_model.specs.Sets.{has, set_below}
 use Rattle.mr_model.specs.Code.{Code, dimensions, survivors}
 use Rattle.mr_model.specs.Members.{members}
@@ -10,7 +11,6 @@ use Rattle.mr_io.specs.Growth.{bytes_of}
 use Rattle.mr_io.specs.declared.duty.Duty.TheVariants.{Copy}
 use Rattle.mr_image.specs.Heads.{checked_layout, image_bytes}
 use Rattle.mr_image.specs.Images.{Layout, stripe_symbols}
-use Rattle.mr_image.specs.declared.faults.HeadFault.{HeadFault}
 use Rattle.mr_image.specs.declared.faults.ImageKind.TheVariants.{Length}
 use Rattle.mr_choices.specs.Handed.{sound_given}
 use Rattle.mr_losses.specs.Losses.{symbols_of_devices}
@@ -68,14 +68,10 @@ set_read contents (Some plan) m lost = plan_set contents plan m lost
 
 -- ---- what is asked for
 
--- the layout, or the refusal of its numbers
-abbrev pub or_head_fault : Result Layout HeadFault → Result Layout Fault
-or_head_fault (Ok l) = Ok l
-or_head_fault (Err fault) = Err (head_fault fault)
-
--- the layout of the image for a code
+-- the layout of the image for a code, or the refusal of its numbers
 abbrev pub layout_given : Code → GatherAsked → Result Layout Fault
-layout_given m asked = or_head_fault (checked_layout (dimensions m) asked.bytes asked.stripes)
+layout_given m asked =
+    result_map_both (λ l. l) head_fault (checked_layout (dimensions m) asked.bytes asked.stripes)
 
 -- the task for a code
 unfoldable pub task_for : (List ℕ → List ℕ) → GatherAsked → Code → Reading Task

@@ -2,6 +2,7 @@
 use Rattle.std.proofs.Common.{◌≡◌, ◌∙◌, ◌+◌, ◌*◌, ◌<◌, ◌≤◌, ◌==◌, ◌%◌, ◌||◌, not, ℕ, Bool, true, false, cond, nat_lt, drop, length, take, List, ◌++◌, min, Option, Some, None, Result, Ok, Err, refl, sym, ap, subst, arith, length-append, length-take}
 use Rattle.std.specs.Prelude.{IfSome, OnOk}
 use Rattle.std.specs.Option.{ForSome}
+use Rattle.std.specs.Result.{result_map_both}
 use Rattle.std.specs.Io.KnownBytes.{Consumes, IsAtEnd}
 use Rattle.std.proofs.Math.Nat.{min-eq_left}
 use Rattle.std.proofs.lemmas.Bool.{le-ltb, lt-ltb, ltb-false}
@@ -14,10 +15,11 @@ use Rattle.mr_image.specs.declared.faults.HeadFault.{HeadFault}
 use Rattle.mr_image.specs.declared.faults.HeadFault.TheVariants.{Bad, Large as TooLarge}
 use Rattle.mr_image.specs.declared.limits.TheConstants.{HEAD_BYTES, IMAGE_LIMIT, SYMBOL_LIMIT}
 use Rattle.mr_image.specs.declared.faults.ImageKind.TheVariants.{Bytes, Head as OfHead, Shape as OfShape}
+use Rattle.mr_steps.specs.Faults.{head_fault}
 use Rattle.mr_steps.specs.Steps.{Gives}
 use Rattle.mr_steps.specs.declared.fault.Fault.{Fault}
 use Rattle.mr_steps.specs.declared.fault.Fault.TheVariants.{BadImage}
-use Rattle.mr_scatter_run.specs.Tasks.{head_given, named_length, or_head_fault, stream_head}
+use Rattle.mr_scatter_run.specs.Tasks.{head_given, named_length, stream_head}
 
 module _ (d : Dimensions) (bytes stripes len version : ℕ) (is : len ≡ HEAD_BYTES + stripes * (d.devices * d.symbols_per_device) * min bytes SYMBOL_LIMIT) where
   abbrev named : ℕ
@@ -53,9 +55,9 @@ head-any d head len is =
 
 pub head-given : (d : Dimensions) (head : List ℕ) (len : ℕ) (read : Result Layout HeadFault)
     → len ≡ HEAD_BYTES + number_at 20 head * (d.devices * d.symbols_per_device) * min (number_at 16 head) SYMBOL_LIMIT
-    → read ≡ read_head head d len → head_given d head ≡ or_head_fault read
+    → read ≡ read_head head d len → head_given d head ≡ result_map_both (λ l. l) head_fault read
 unfolding head_given
-head-given d head len read is value = ap or_head_fault (sym (value ∙ head-any d head len is))
+head-given d head len read is value = ap (result_map_both (λ (l : Layout). l) head_fault) (sym (value ∙ head-any d head len is))
 
 -- ---- what is read of the stream
 

@@ -6,8 +6,7 @@ use Rattle.std.proofs.lemmas.Bool.{leb-false}
 use Rattle.std.proofs.lemmas.List.{append-nil, at_drop_all, at_drop_more, get_or-append-add}
 use Rattle.std.proofs.lemmas.List.Elements.{All-get_or}
 use Rattle.std.proofs.Math.Nat.{mul-le-mul_left}
-use Rattle.mr_model.specs.Code.{Code}
-use Rattle.mr_bits.specs.Matrices.{IsMatrixCode}
+use Rattle.mr_model.specs.Code.{Code, Dimensions, IsDimensions}
 use Rattle.mr_text.specs.Numbers.{number_of}
 use Rattle.mr_words.specs.Grammar.{Text}
 use Rattle.mr_words.specs.Lost.{beyond_or, device_set, devices_of, first_beyond}
@@ -77,8 +76,8 @@ lost-low m lost symbols e =
 pub all-below : (a b : ℕ) (xs : List ℕ) → a ≤ b → All (λ x. x < a) xs → All (λ x. x < b) xs
 all-below a b xs few all k d low = let h : slice_index_or xs k d < a = all k d low in omega (arith, h, few)
 
--- a matrix has at most 128 devices
-pub few-devices : (m : Code) → IsMatrixCode m → m.devices ≤ 128
-few-devices m h =
-    let symbols : m.devices * m.symbols_per_device ≤ 128 = h.shape.few_symbols in
-    omega (arith, symbols, mul-le-mul_left {m = 1} {n = m.symbols_per_device} m.devices h.shape.some_symbols)
+-- a code has at most 128 devices
+pub few-devices : (d : Dimensions) → IsDimensions d → d.devices ≤ 128
+few-devices d h =
+    let symbols : d.devices * d.symbols_per_device ≤ 128 = h.few_symbols in
+    omega (arith, symbols, mul-le-mul_left {m = 1} {n = d.symbols_per_device} d.devices h.some_symbols)

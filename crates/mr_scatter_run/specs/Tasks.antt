@@ -1,9 +1,9 @@
 -- What `scatter` is asked for and what it does: the head of a stream, the lost devices, what their files get, and its lines.
 use Rattle.std.specs.Prelude.{ℕ, ◌*◌, ◌==◌, ◌++◌, List, [], ◌∷◌, codes, decimal, drop, encode_utf8_all, length, map, nat_lt, take, Option, None, Some, Result, Ok, Err, if◌then◌else◌}
+use Rattle.std.specs.Result.{result_map_both}
 use Rattle.mr_model.specs.Code.{Code, Dimensions, dimensions}
 use Rattle.mr_image.specs.Heads.{file_bytes, layout, number_at, read_head}
 use Rattle.mr_image.specs.Images.{Layout, body_bytes}
-use Rattle.mr_image.specs.declared.faults.HeadFault.{HeadFault}
 use Rattle.mr_image.specs.declared.faults.ImageKind.TheVariants.{Head, Length}
 use Rattle.mr_image.specs.declared.limits.TheConstants.{HEAD_BYTES}
 use Rattle.mr_words.specs.Lost.{lost_numbers}
@@ -32,18 +32,13 @@ task_in ready = record { layout = ready.head; first = ready.first; lost = ready.
 
 -- ---- the head of a stream
 
--- the layout, or the refusal of its numbers
-abbrev pub or_head_fault : Result Layout HeadFault → Result Layout Fault
-or_head_fault (Ok l) = Ok l
-or_head_fault (Err fault) = Err (head_fault fault)
-
 -- the length that a file with the numbers of this head has, for a code of these dimensions
 abbrev pub named_length : Dimensions → List ℕ → ℕ
 named_length d head = file_bytes (layout d (number_at 16 head) (number_at 20 head))
 
 -- the layout that these bytes spell, as the head of a file of the length that they name
 unfoldable pub head_given : Dimensions → List ℕ → Result Layout Fault
-head_given d head = or_head_fault (read_head head d (named_length d head))
+head_given d head = result_map_both (λ l. l) head_fault (read_head head d (named_length d head))
 
 -- the layout that the head of a stream spells, be the stream as long as it may
 unfoldable pub stream_head : Dimensions → List ℕ → Result Layout Fault

@@ -8,7 +8,7 @@ use Rattle.mr_gather_run.specs.Slots.{device_eyes, fresh_slots, present}
 use Rattle.mr_gather_run.specs.Tasks.{task_in}
 use Rattle.mr_gather_run.proofs.AfterReads.{same-present}
 use Rattle.mr_gather_run.proofs.Devices.{can-give, no-eye, slots-cause, slots-cut, slots-grow, slots-put, slots-read, whole-fresh}
-use Rattle.mr_gather_run.proofs.Lending.{can-return}
+use Rattle.mr_gather_run.proofs.Lending.{gives-back}
 use Rattle.mr_gather_run.proofs.Sights.{holds}
 use Rattle.mr_gather_run.proofs.gathering.gather_devices.Goals as goal
 
@@ -27,11 +27,12 @@ retire_slots-requires-after_bounds g c κs within =
 
 pub retire_slots-requires-in-Err-after_bounds : goal.retire_slots-requires-in-Err-after_bounds
 retire_slots-requires-in-Err-after_bounds g c κs within =
-    can-return _ _ (device_eyes c.args.devices.now) _ c.in-Err.ensures.refused c.in-Err.ensures.untold
+    (gives-back _ _ (device_eyes c.args.devices.now) _ c.in-Err.ensures.refused c.in-Err.ensures.untold).lent
 
 pub returns-clause-reads : goal.returns-clause-reads
 returns-clause-reads g c =
-    no-eye _ _ _ c.args.devices.now (task_in c.args.task.now) _ c.in-Err.error _ c.in-Err.ensures.refused c.retire_slots-in-Err.ensures.told c.from.ensures
+    no-eye _ _ _ c.args.devices.now (task_in c.args.task.now) _ c.in-Err.error _
+    (gives-back _ _ (device_eyes c.args.devices.now) _ c.in-Err.ensures.refused c.in-Err.ensures.untold) c.retire_slots-in-Err.ensures.told c.from.ensures
 
 pub returns-in-Ok-clause-reads : goal.returns-in-Ok-clause-reads
 returns-in-Ok-clause-reads g c =

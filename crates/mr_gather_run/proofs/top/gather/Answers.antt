@@ -1,7 +1,6 @@
 use Rattle.std.proofs.lemmas.Result.{err_from_is_err_and}
 use Rattle.mr_array_words.specs.Gather.{gather_asked}
 use Rattle.mr_gather_run.proofs.AnswerSteps.{at-devices, at-task, cut-at, devices-grow, past-devices, put-at}
-use Rattle.mr_gather_run.proofs.Lending.{on-err}
 use Rattle.mr_gather_run.proofs.top.gather.Goals as goal
 
 pub returns-in_err-task-clause-reads : goal.returns-in_err-task-clause-reads
@@ -17,7 +16,8 @@ returns-in_err-gather_devices-clause-reads g c =
 
 pub returns-in_err-gather_devices-clause-cut : goal.returns-in_err-gather_devices-clause-cut
 returns-in_err-gather_devices-clause-cut g c =
-    on-err c.from_residual-in_err-gather_devices.result
+    let p = err_from_is_err_and c.from_residual-in_err-gather_devices.result c.from_residual-in_err-gather_devices.ensures.1 in
+    rw p.1
     (cut-at (gather_asked c.args.words.now) _ _ (g.F.Files.told c.gather_devices.new.files) c.in_ok-task.task c.deref.result.now c.deref.ensures.value c.in_ok-task.ensures.reads _ _ _ _
     c.in_err-gather_devices.ensures.cut)
 

@@ -5,6 +5,7 @@ use Rattle.mr_words.specs.Lost.{lost_numbers}
 use Rattle.mr_steps.specs.Losses.{lost_symbols_given}
 use Rattle.mr_steps.proofs.Chains.{gives_err, gives_then}
 use Rattle.mr_scatter_run.specs.Tasks.{lost_given, numbers_in}
+use Rattle.mr_model.specs.Code.{dimensions}
 use Rattle.mr_scatter_run.proofs.LostLaws.{all-below, few-devices, lost-low}
 use Rattle.mr_scatter_run.proofs.lost.lost_list.Goals as goal
 
@@ -17,7 +18,7 @@ returns-in_err-_symbols-clause-given c =
 pub numbers_of-requires : goal.numbers_of-requires
 numbers_of-requires c =
     subst (λ word. All (λ number. number < 128) (lost_numbers word)) (sym c.as_str.ensures.bytes)
-    (all-below c.args.matrix.now.devices 128 (numbers_in c.args.lost.now) (few-devices c.args.matrix.now c.shape-few.ensures.code)
+    (all-below c.args.matrix.now.devices 128 (numbers_in c.args.lost.now) (few-devices (dimensions c.args.matrix.now) c.shape-few.ensures.code.shape)
     (lost-low c.args.matrix.now c.args.lost.now c.in_ok-_symbols._symbols c.in_ok-_symbols.ensures.given))
 
 pub returns-clause-given : goal.returns-clause-given
